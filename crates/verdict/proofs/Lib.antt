@@ -1,1 +1,5 @@
 pub mod Numbered
+pub mod Saying
+pub mod Running
+pub mod Reaching
+pub mod Only
