@@ -2,15 +2,40 @@
 use Prim.Native.Nat.{ℕ, zero, suc, _+_, _≤_, _<_}
 use mathlib.Core.Path.{_≡_, refl, sym, ap, _∙_, subst}
 use mathlib.Core.Logic.{_↔_}
-use mathlib.Core.List.{List, [], _∷_, _++_}
+use mathlib.Core.List.{List, [], _∷_, _++_, append-nil}
 use native.Mathlib.Omega.{arith}
-use lib.ListN.{length, take, getD}
+use lib.ListN.{length, length-append}
 use Rattle.verdict.specs.declared.Reason.{Reason}
 use Rattle.verdict.specs.declared.Verdict.{Verdict}
 use Rattle.verdict.specs.declared.Verdict.the-variants.{Complete, Unfinished, Refused}
 use Rattle.verdict.specs.Says.{Bytes, NoneWithin, Says, OneReason}
-use Rattle.verdict.specs.Machine.{Move, on, done, bad, moved, Falls, Nears, follow, Accepts, Blames, run, Laws}
+use Rattle.verdict.specs.Machine.{Move, on, done, bad, moved, Falls, Nears, follow, shift, Accepts, Blames, run, Laws}
 use Rattle.verdict.proofs.Saying.{says-one, says-same, says-later}
+
+nothing : (t : List ℕ) → length t ≡ 0 → t ≡ []
+nothing [] e = refl
+nothing (b ∷ t) e = absurd (omega arith)
+
+module _ {S : Type 0} (step : S → ℕ → Move S) (least : S → ℕ) where
+  -- a run over accepted bytes is complete at their count, whatever is appended
+  pub accepted-complete : (w t : List ℕ) (s : S) → Accepts step s w → run step least s (w ++ t) ≡ Complete (length w)
+  unfolding run Accepts
+  accepted-complete [] t s a = absurd a
+  accepted-complete (b ∷ w) t s a = go (λ u x. accepted-complete w t u x) (step s b) (a .1)
+    where
+      go : ((u : S) → Accepts step u w → run step least u (w ++ t) ≡ Complete (length w)) → (m : Move S) → moved m (λ u. Accepts step u w) (w ≡ []) (λ r. ⊥)
+          → follow m (λ u. run step least u (w ++ t)) ≡ Complete (suc (length w))
+      go ih (on u) x = ap (shift 1) (ih u x) ∙ ap Complete (omega arith)
+      go ih done x = ap (λ (l : List ℕ). Complete (suc (length l))) (sym x)
+      go ih (bad r) x = absurd x
+
+  -- no accepted bytes are the beginning of others
+  pub accepted-alone : (w t : List ℕ) (s : S) → Accepts step s w → Accepts step s (w ++ t) → t ≡ []
+  accepted-alone w t s a x =
+      let e : Complete (length w) ≡ Complete (length (w ++ t)) =
+      sym (accepted-complete w t s a) ∙ rw append-nil at (accepted-complete (w ++ t) [] s x) in
+      let n : length w ≡ length (w ++ t) = cc in
+      nothing t (omega (arith, length-append w t))
 
 module _ {S : Type 0} (step : S → ℕ → Move S) (least : S → ℕ) (Good : S → Type 0) (laws : Laws step least Good) where
   -- what is left of a pack behind a move
@@ -95,3 +120,10 @@ module _ {S : Type 0} (step : S → ℕ → Move S) (least : S → ℕ) (Good : 
     -- and no other verdict is said
     pub verdict-only : OneReason Why → (bs : List ℕ) → Bytes bs → (v : Verdict) → Says Pack Why bs v → v ≡ run step least start bs
     verdict-only one bs h v x = says-one Pack Why bs one v (run step least start bs) x (verdict-said bs h)
+
+    -- a pack is complete at its own length, whatever is appended, and begins no other pack
+    pub pack-complete : (w t : List ℕ) → Pack w → run step least start (w ++ t) ≡ Complete (length w)
+    pack-complete w t p = accepted-complete step least w t start (packs w .1 p)
+
+    pub pack-alone : (w t : List ℕ) → Pack w → Pack (w ++ t) → t ≡ []
+    pack-alone w t p q = accepted-alone step least w t start (packs w .1 p) (packs (w ++ t) .1 q)
