@@ -1,0 +1,4 @@
+pub mod Octet
+pub mod Drawing
+pub mod Octets
+pub mod Only
