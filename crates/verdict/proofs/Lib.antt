@@ -1,3 +1,4 @@
+pub mod Cases
 pub mod Numbered
 pub mod Saying
 pub mod Running

@@ -1,5 +1,5 @@
 -- A reason's number is its own and at most 25; the packed number is the paper's for every verdict that occurs, and no two of those share one. Assumes nothing.
-use Prim.Native.Nat.{ℕ, _+_, _*_, _^_, _≤_, _<_}
+use Prim.Native.Nat.{ℕ, _≤_}
 use mathlib.Core.Path.{_≡_, refl, sym, ap, ap₂, _∙_}
 use mathlib.Core.List.{List, [], _∷_}
 use native.Mathlib.Omega.{arith}
@@ -7,7 +7,6 @@ use lib.Dec.{lit≤}
 use lib.ListN.{getD}
 use Rattle.verdict.specs.declared.Reason.{Reason}
 use Rattle.verdict.specs.declared.Reason.the-variants.{Zero, TooLarge, PaddedNumber, Mode, Reserved, ValueLength, Sparse, SizeOne, Empty, VectorEnd, ValueRange, Processing, SmallBuffer, Disagree, Index, Character, UnknownKey, LengthForm, LengthDiffers, FrameShort, FrameLong}
-use Rattle.verdict.specs.declared.Refusal.{Refusal}
 use Rattle.verdict.specs.declared.Verdict.{Verdict}
 use Rattle.verdict.specs.declared.Verdict.the-variants.{Complete, Unfinished, Refused}
 use Rattle.verdict.specs.Numbers.{numberOf, paperOf, packedOf, Occurs}

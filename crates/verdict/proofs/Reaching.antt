@@ -7,10 +7,9 @@ use native.Mathlib.Numerals.{add-one}
 use native.Mathlib.Omega.{arith}
 use lib.ListN.{length, drop, getD, drop-of-length-le}
 use lib.Seq.{drop-cons}
-use Rattle.verdict.specs.declared.Reason.{Reason}
 use Rattle.verdict.specs.declared.Verdict.{Verdict}
 use Rattle.verdict.specs.declared.Verdict.the-variants.{Complete, Unfinished, Refused}
-use Rattle.verdict.specs.Machine.{Move, on, done, bad, shift, follow, run, reach}
+use Rattle.verdict.specs.Machine.{Move, on, done, bad, shift, follow, run, reach, led}
 
 pub shift-shift : (i j : ℕ) (v : Verdict) → shift i (shift j v) ≡ shift (i + j) v
 shift-shift i j (Complete n) = ap Complete (sym (add-assoc i j n))
@@ -32,18 +31,11 @@ module _ {S : Type 0} (step : S → ℕ → Move S) (least : S → ℕ) (bytes :
     unfolding reach run
     reach-cut h = rw (drop-of-length-le bytes h)
 
-    module _ (h : place < length bytes) where
-      -- one byte's move
-      reach-move : (m : Move S) → step s (getD bytes place 0) ≡ m → reach step least s bytes place ≡ shift place (follow m (λ t. run step least t (drop (suc place) bytes)))
-      unfolding reach run
-      reach-move m e = rw (drop-cons bytes place 0 h, e)
-
-      pub reach-on : (t : S) → step s (getD bytes place 0) ≡ on t → reach step least s bytes place ≡ reach step least t bytes (place + 1)
-      unfolding reach
-      reach-on t e = reach-move (on t) e ∙ shift-shift place 1 (run step least t (drop (suc place) bytes)) ∙ rw (add-one place)
-
-      pub reach-done : step s (getD bytes place 0) ≡ done → reach step least s bytes place ≡ Complete (place + 1)
-      reach-done e = reach-move done e
-
-      pub reach-bad : (r : Reason) → step s (getD bytes place 0) ≡ bad r → reach step least s bytes place ≡ Refused (record { reason = r; place = place })
-      reach-bad r e = reach-move (bad r) e ∙ ap (λ (p : ℕ). Refused (record { reason = r; place = p })) (omega arith)
+    pub reach-step : place < length bytes → reach step least s bytes place ≡ led step least (step s (getD bytes place 0)) bytes (place + 1)
+    unfolding reach run led
+    reach-step h = rw (drop-cons bytes place 0 h) (go (step s (getD bytes place 0)))
+      where
+        go : (m : Move S) → shift place (follow m (λ t. run step least t (drop (suc place) bytes))) ≡ led step least m bytes (place + 1)
+        go (on t) = shift-shift place 1 (run step least t (drop (suc place) bytes)) ∙ rw (add-one place)
+        go done = refl
+        go (bad r) = ap (λ (p : ℕ). Refused (record { reason = r; place = p })) (omega arith)

@@ -1,5 +1,5 @@
 -- The law of machines: where a machine keeps its laws, its run's verdict is said of what it accepts, and no other is. Assumes nothing.
-use Prim.Native.Nat.{ℕ, zero, suc, _+_, _≤_, _<_}
+use Prim.Native.Nat.{ℕ, zero, suc, _≤_}
 use mathlib.Core.Path.{_≡_, refl, sym, ap, _∙_, subst}
 use mathlib.Core.Logic.{_↔_}
 use mathlib.Core.List.{List, [], _∷_, _++_, append-nil}
@@ -7,7 +7,7 @@ use native.Mathlib.Omega.{arith}
 use lib.ListN.{length, length-append}
 use Rattle.verdict.specs.declared.Reason.{Reason}
 use Rattle.verdict.specs.declared.Verdict.{Verdict}
-use Rattle.verdict.specs.declared.Verdict.the-variants.{Complete, Unfinished, Refused}
+use Rattle.verdict.specs.declared.Verdict.the-variants.{Complete}
 use Rattle.verdict.specs.Says.{Bytes, NoneWithin, Says, OneReason}
 use Rattle.verdict.specs.Machine.{Move, on, done, bad, moved, Falls, Nears, follow, shift, Accepts, Blames, run, Laws}
 use Rattle.verdict.proofs.Saying.{says-one, says-same, says-later}

@@ -1,6 +1,6 @@
 -- What follows from what a verdict says, for any set of packs: at most one is said, complete and refused stay, a later verdict is one on the whole. Assumes nothing.
 use Prim.Native.Nat.{ℕ, zero, suc, _+_, _-_, _≤_, _<_}
-use mathlib.Core.Path.{_≡_, refl, sym, ap, ap₂, _∙_, subst}
+use mathlib.Core.Path.{_≡_, sym, ap, _∙_, subst}
 use mathlib.Core.Logic.{_↔_}
 use mathlib.Core.List.{List, [], _∷_, _++_, append-assoc}
 use native.Mathlib.Nat.{le-antisymm, le-of-suc-le-suc, lt-of-not-le}

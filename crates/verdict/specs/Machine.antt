@@ -1,5 +1,5 @@
 -- A machine that each byte moves on, the verdict of its run, and the laws that each kind of pack owes for its machine.
-use Prim.Native.Nat.{ℕ, suc, _+_, _≤_, _<_}
+use Prim.Native.Nat.{ℕ, suc, _+_, _-_, _≤_, _<_}
 use mathlib.Core.Path.{_≡_}
 use mathlib.Core.List.{List, [], _∷_}
 use lib.ListN.{drop}
@@ -63,3 +63,10 @@ module _ {S : Type 0} (step : S → ℕ → Move S) where
   -- the verdict on all the bytes, from a state that the machine has reached at a place of them
   unfoldable pub reach : (S → ℕ) → S → List ℕ → ℕ → Verdict
   reach least s bytes place = shift place (run least s (drop place bytes))
+
+  -- and behind the move of the byte before that place
+  unfoldable pub led : (S → ℕ) → Move S → List ℕ → ℕ → Verdict
+  unfolding reach
+  led least (on s) bytes place = reach least s bytes place
+  led least done bytes place = Complete place
+  led least (bad reason) bytes place = Refused (record { reason = reason; place = place - 1 })
