@@ -1,13 +1,14 @@
 -- The octets of a value, and the drawing of them: what is written is read back with anything behind it, and nothing is read but the shortest form. Assumes nothing.
 use Prim.Native.Nat.{ℕ, zero, suc, _+_, _-_, _*_, _/_, _%_, _<_, _≤_}
 use mathlib.Core.Path.{_≡_, refl, ap, ap₂, subst, _∙_}
-use mathlib.Core.Bool.{Bool, true, false, _&&_, cond}
+use mathlib.Core.Bool.{Bool, true, _&&_}
 use mathlib.Core.List.{List, [], _∷_, _++_, append-assoc, append-nil}
 use native.Mathlib.Omega.{arith}
 use lib.Dec.{eqb, ltb}
 use lib.ListN.{length, getD, drop, length-append}
 use lib.Seq.{drop-append-seam}
 use borrow.Author.Tests.{ltb-true, ltb-false, eqb-false, lt-ltb, le-ltb, eq-eqb, ne-eqb}
+use Rattle.verdict.proofs.Cases.{by-test}
 use Rattle.verdict.specs.declared.Reason.{Reason}
 use Rattle.verdict.specs.declared.Refusal.{Refusal}
 use Rattle.number.specs.declared.Effect.{Effect}
@@ -130,10 +131,6 @@ begins p t s e = rw e (rw drop-append-seam)
 
 high-octet : (v d o : ℕ) (t : List ℕ) → o ≡ 128 + d → o < 256 → 0 < v * 128 + d → high (v * 128 + d) ++ t ≡ high v ++ (o ∷ t)
 high-octet v d o t e b p = rw (high-more v d (omega arith) p, e, append-assoc)
-
-by-test : {X : Type 0} (P : X → Type 0) (t : Bool) (x y : X) → (t ≡ true → P x) → (t ≡ false → P y) → P (cond t x y)
-by-test P true x y f g = f refl
-by-test P false x y f g = g refl
 
 -- the ways that drawing goes, from a number begun with a value
 module _ (positive : Bool) (most : ℕ) where

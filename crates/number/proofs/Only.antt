@@ -6,28 +6,23 @@ use base.Logic.{ent}
 use contract.Lifetimes.{Lfts}
 use contract.Monad.{conj, conjL, conjR, fact, factI, fact-use}
 use borrow.Fn.World.{World, Pr, ArgsD, ResD}
-use borrow.Fn.Kinds.{endedOf}
 use denote.Triple.Clauses.{AtExit}
 use denote.Ref.{RefT}
-use Rattle.number.proofs.effect_of as effect-of
-use Rattle.number.proofs.effect_of.Kinds as effect-of-kinds
+use Rattle.verdict.proofs.OneAnswer.{OneAnswer}
+use Rattle.number.proofs.effect_of.Kinds as effect-of
 use Rattle.number.proofs.effect_of.Reads as effect-of-reads
-use Rattle.number.proofs.draw_at as draw-at
-use Rattle.number.proofs.draw_at.Kinds as draw-at-kinds
+use Rattle.number.proofs.draw_at.Kinds as draw-at
 use Rattle.number.proofs.draw_at.Reads as draw-at-reads
-use Rattle.number.proofs.draw_from as draw-from
-use Rattle.number.proofs.draw_from.Kinds as draw-from-kinds
+use Rattle.number.proofs.draw_from.Kinds as draw-from
 use Rattle.number.proofs.draw_from.Reads as draw-from-reads
 use Rattle.number.proofs.draw as draw
 use Rattle.number.proofs.numbers_at as numbers-at
 
-pub effect-of-one : (κs : Lfts 0) (a : ArgsD effect-of.signature κs) (r t : ResD effect-of.signature κs) (s u : AtExit (endedOf 0 effect-of-kinds.ps effect-of-kinds.r) κs)
-    → effect-of-reads.Post κs a r s → effect-of-reads.Post κs a t u → r ≡ t
-effect-of-one κs a r t s u x y = x ∙ sym y
+pub effect-of-only : OneAnswer effect-of.ps effect-of.r effect-of-reads.Post
+effect-of-only κs a x y s t p q = p ∙ sym q
 
-pub draw-at-one : (κs : Lfts 1) (a : ArgsD draw-at.signature κs) (r t : ResD draw-at.signature κs) (s u : AtExit (endedOf 1 draw-at-kinds.ps draw-at-kinds.r) κs)
-    → draw-at-reads.Post κs a r s → draw-at-reads.Post κs a t u → r ≡ t
-draw-at-one κs a r t s u x y = x ∙ sym y
+pub draw-at-only : OneAnswer draw-at.ps draw-at.r draw-at-reads.Post
+draw-at-only κs a x y s t p q = p ∙ sym q
 
 module _ (w : World) (κs : Lfts 1) where
   -- where a struct holds the slice Rattle reads no clause: the `ensures` themselves, in any model
@@ -42,12 +37,11 @@ module _ (w : World) (κs : Lfts 1) where
       let P = fact (w .𝓤) φ in let Q = fact (w .𝓤) ψ in
       fact-use (w .𝓤) φ (conjL (w .𝓤) P Q) (λ x. fact-use (w .𝓤) ψ (conjR (w .𝓤) P Q) (λ y. factI (w .𝓤) ρ (conj (w .𝓤) P Q) (f x y)))
 
-  pub numbers-at-one : (a : ArgsD numbers-at.signature κs) (r t : ResD numbers-at.signature κs) (s u : AtExit numbers-at.ended κs) → ent (w .𝓤) (conj (w .𝓤) (Made a r s) (Made a t u)) (fact (w .𝓤) (r ≡ t))
-  numbers-at-one a r t s u = agreed _ _ (r ≡ t) (λ x y. ap₂ (λ (b : RefT (List ℕ)) (p : ℕ). record { bytes = b; place = p }) (x .0 ∙ sym (y .0)) (x .1 ∙ sym (y .1)))
+  pub numbers-at-only : (a : ArgsD numbers-at.signature κs) (r t : ResD numbers-at.signature κs) (s u : AtExit numbers-at.ended κs) → ent (w .𝓤) (conj (w .𝓤) (Made a r s) (Made a t u)) (fact (w .𝓤) (r ≡ t))
+  numbers-at-only a r t s u = agreed _ _ (r ≡ t) (λ x y. ap₂ (λ (b : RefT (List ℕ)) (p : ℕ). record { bytes = b; place = p }) (x .0 ∙ sym (y .0)) (x .1 ∙ sym (y .1)))
 
-  pub draw-one : (a : ArgsD draw.signature κs) (r t : ResD draw.signature κs) (s u : AtExit draw.ended κs) → ent (w .𝓤) (conj (w .𝓤) (Drew a r s) (Drew a t u)) (fact (w .𝓤) (r ≡ t))
-  draw-one a r t s u = agreed _ _ (r ≡ t) (λ x y. x ∙ sym y)
+  pub draw-only : (a : ArgsD draw.signature κs) (r t : ResD draw.signature κs) (s u : AtExit draw.ended κs) → ent (w .𝓤) (conj (w .𝓤) (Drew a r s) (Drew a t u)) (fact (w .𝓤) (r ≡ t))
+  draw-only a r t s u = agreed _ _ (r ≡ t) (λ x y. x ∙ sym y)
 
-pub draw-from-one : (κs : Lfts 1) (a : ArgsD draw-from.signature κs) (r t : ResD draw-from.signature κs) (s u : AtExit (endedOf 1 draw-from-kinds.ps draw-from-kinds.r) κs)
-    → draw-from-reads.Post κs a r s → draw-from-reads.Post κs a t u → r ≡ t
-draw-from-one κs a r t s u x y = x ∙ sym y
+pub draw-from-only : OneAnswer draw-from.ps draw-from.r draw-from-reads.Post
+draw-from-only κs a x y s t p q = p ∙ sym q

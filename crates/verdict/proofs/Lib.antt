@@ -3,4 +3,5 @@ pub mod Numbered
 pub mod Saying
 pub mod Running
 pub mod Reaching
+pub mod OneAnswer
 pub mod Only
