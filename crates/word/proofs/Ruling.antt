@@ -1,23 +1,25 @@
--- Laws of the rule of a format and a length, for deviations and coefficients alike. Assumes nothing.
+-- The rule at a format and a length that are known. Assumes nothing.
 use Prim.Native.Nat.{ℕ}
-use mathlib.Core.Path.{_≡_, sym, ap₂}
+use mathlib.Core.Path.{_≡_, sym, ap}
 use mathlib.Core.Bool.{Bool, false, cond}
 use borrow.Author.Tests.{ne-eqb}
+use lib.Dec.{eqb}
 use Rattle.verdict.specs.declared.Reason.the-variants.{ValueLength}
 use Rattle.word.specs.declared.rules.Rule.{Rule}
 use Rattle.word.specs.declared.rules.Ruled.{Ruled}
 use Rattle.word.specs.declared.rules.Ruled.the-variants.{Refused}
-use Rattle.word.specs.Rules.{Format, mappedRule, ieeeRule, ruledBy}
+use Rattle.word.specs.Rules.{mappedRule, ruledBy}
 
-module _ (rule : Format → Rule) where
-  abbrev pub ruled : Bool → ℕ → Ruled
-  ruled mapped n = ruledBy mapped n (cond mapped (mappedRule n) (ieeeRule rule n))
+pub ruled-in : (rule : Bool → ℕ → Rule) (n : ℕ) {mapped m : Bool} → mapped ≡ m → ruledBy m n (rule m n) ≡ ruledBy mapped n (rule mapped n)
+ruled-in rule n e = sym (ap (λ (t : Bool). ruledBy t n (rule t n)) e)
 
-  -- the rule at a known format and length
-  pub ruled-at : {mapped m : Bool} (n k : ℕ) → mapped ≡ m → n ≡ k → ruled m k ≡ ruled mapped n
-  ruled-at n k e f = sym (ap₂ ruled e f)
+module _ (two four eight : Rule) where
+  abbrev pub ruled : ℕ → Ruled
+  ruled n = ruledBy false n (cond (eqb n 2) two (cond (eqb n 4) four (cond (eqb n 8) eight (mappedRule 0))))
+
+  pub ruled-at : (n k : ℕ) → n ≡ k → ruled k ≡ ruled n
+  ruled-at n k e = sym (ap ruled e)
 
   -- no IEEE format has another length
-  pub ruled-not : {mapped : Bool} (n : ℕ) → mapped ≡ false → (n ≡ 0 → ⊥) → (n ≡ 2 → ⊥) → (n ≡ 4 → ⊥) → (n ≡ 8 → ⊥)
-      → Refused (record { reason = ValueLength; place = 0 }) ≡ ruled mapped n
-  ruled-not n e f g h i = rw e (simp (ne-eqb n 0 f, ne-eqb n 2 g, ne-eqb n 4 h, ne-eqb n 8 i))
+  pub ruled-not : (n : ℕ) → (n ≡ 0 → ⊥) → (n ≡ 2 → ⊥) → (n ≡ 4 → ⊥) → (n ≡ 8 → ⊥) → Refused (record { reason = ValueLength; place = 0 }) ≡ ruled n
+  ruled-not n f g h i = simp (ne-eqb n 0 f, ne-eqb n 2 g, ne-eqb n 4 h, ne-eqb n 8 i)

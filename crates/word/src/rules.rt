@@ -1,6 +1,7 @@
 // The rules that words keep: of the IEEE formats, one type per width, and of mapped words of any length.
 ghost use mathlib.Core.Path.{_≡_};
-ghost use mathlib.Core.Bool.{true};
+ghost use mathlib.Core.Bool.{true, false, cond};
+ghost use lib.Dec.{eqb};
 ghost use Rattle.word.specs.Rules.{admitted, mappedRule, half, single, double, deviations, coefficients, deviationRule, coefficientRule, ruledBy};
 use verdict::Reason;
 use verdict::Refusal;
@@ -160,19 +161,32 @@ fn mapped_rule(length: usize) -> Ruled
     })
 }
 
+// The rule of an IEEE length: of two, of four or of eight bytes; in 0 bytes only the word 0.
+fn ieee_rule(length: usize, two: Rule, four: Rule, eight: Rule) -> Ruled
+    ensures { λ r. ⌜ r ≡ ruledBy false length (cond (eqb length 2) two (cond (eqb length 4) four (cond (eqb length 8) eight (mappedRule 0)))) ⌝ }
+{
+    match length {
+        0 => mapped_rule(0),
+        2 => Ruled::By(two),
+        4 => Ruled::By(four),
+        8 => Ruled::By(eight),
+        _ => refused(),
+    }
+}
+
 // The rule of deviations.
 pub fn deviation_rule(mapped: bool, length: usize) -> Ruled
     ensures { λ r. ⌜ r ≡ ruledBy mapped length (deviationRule mapped length) ⌝ }
 {
     if mapped {
-        return mapped_rule(length);
-    }
-    match length {
-        0 => mapped_rule(0),
-        2 => Ruled::By(Half::DEVIATIONS),
-        4 => Ruled::By(Single::DEVIATIONS),
-        8 => Ruled::By(Double::DEVIATIONS),
-        _ => refused(),
+        mapped_rule(length)
+    } else {
+        ieee_rule(
+            length,
+            Half::DEVIATIONS,
+            Single::DEVIATIONS,
+            Double::DEVIATIONS,
+        )
     }
 }
 
@@ -181,13 +195,13 @@ pub fn coefficient_rule(mapped: bool, length: usize) -> Ruled
     ensures { λ r. ⌜ r ≡ ruledBy mapped length (coefficientRule mapped length) ⌝ }
 {
     if mapped {
-        return mapped_rule(length);
-    }
-    match length {
-        0 => mapped_rule(0),
-        2 => Ruled::By(Half::COEFFICIENTS),
-        4 => Ruled::By(Single::COEFFICIENTS),
-        8 => Ruled::By(Double::COEFFICIENTS),
-        _ => refused(),
+        mapped_rule(length)
+    } else {
+        ieee_rule(
+            length,
+            Half::COEFFICIENTS,
+            Single::COEFFICIENTS,
+            Double::COEFFICIENTS,
+        )
     }
 }
