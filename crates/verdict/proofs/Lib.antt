@@ -3,5 +3,6 @@ pub mod Numbered
 pub mod Saying
 pub mod Running
 pub mod Reaching
+pub mod Judging
 pub mod OneAnswer
 pub mod Only

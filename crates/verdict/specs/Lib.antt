@@ -1,3 +1,4 @@
 pub mod Numbers
 pub mod Says
 pub mod Machine
+pub mod Rows
