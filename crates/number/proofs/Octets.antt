@@ -53,7 +53,7 @@ unfolding octets high highIn
 octets-128 = refl
 
 -- a value by its octets but the last: none for 0, else one more
-data Begun : ℕ → Type 0 where
+pub data Begun : ℕ → Type 0 where
   none : Begun 0
   more : {v : ℕ} (d : ℕ) → d < 128 → 0 < v * 128 + d → Begun v → Begun (v * 128 + d)
 
@@ -67,7 +67,7 @@ begun-below : (f v : ℕ) → v ≤ f → Begun v
 begun-below zero v h = let e : 0 ≡ v = omega arith in subst Begun e none
 begun-below (suc f) v h = begun-next f (begun-below f) v h
 
-begun : (v : ℕ) → Begun v
+pub begun : (v : ℕ) → Begun v
 begun v = begun-below v v (omega arith)
 
 getD-last : (s : List ℕ) (x i : ℕ) → ((k : ℕ) → getD s k 0 < 256) → x < 256 → getD (s ++ (x ∷ [])) i 0 < 256

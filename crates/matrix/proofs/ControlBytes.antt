@@ -1,0 +1,125 @@
+-- The control bytes and the fields: each spells the other where its rules are kept. Assumes nothing.
+use Prim.Native.Nat.{ℕ, zero, suc, _+_, _*_, _/_, _%_, _≤_, _<_}
+use mathlib.Core.Path.{_≡_, refl, sym, ap, _∙_, subst}
+use mathlib.Core.Bool.{Bool, true, false, _&&_}
+use native.Mathlib.Nat.{div-div-eq-div-mul}
+use native.Mathlib.Omega.{arith}
+use borrow.Author.Tests.{eqb-true, eqb-false, eq-eqb, ne-eqb, le-ltb, ltb-false, not-false}
+use lib.Dec.{eqb, ltb}
+use Rattle.verdict.proofs.Judging.{Kept}
+use Rattle.verdict.proofs.Cases.{either}
+use Rattle.word.proofs.Certain.{deviation-sound, coefficient-sound, deviation-length, coefficient-length}
+use Rattle.matrix.specs.declared.Fields.{Fields}
+use Rattle.matrix.specs.Meaning.{LawfulFirst, LawfulFields}
+use Rattle.matrix.specs.Spelling.{bit, first, second, control1, control2}
+use Rattle.matrix.specs.Table.{sizeRows, control1Rows, control2Rows}
+
+bit-of : (x : ℕ) → x < 2 → bit (eqb x 1) ≡ x
+bit-of zero h = refl
+bit-of (suc zero) h = refl
+bit-of (suc (suc x)) h = absurd (omega arith)
+
+-- a byte by its upper bits
+halves : (c : ℕ) → c < 256 → c ≡ c / 128 * 128 + (c / 64 % 2 * 64 + (c / 32 % 2 * 32 + (c / 16 % 2 * 16 + c % 16)))
+halves c h =
+    let a : c / 64 ≡ c / 128 * 2 + c / 64 % 2 = omega (arith, div-div-eq-div-mul c 64 2) in
+    let b : c / 32 ≡ c / 64 * 2 + c / 32 % 2 = omega (arith, div-div-eq-div-mul c 32 2) in
+    let d : c / 16 ≡ c / 32 * 2 + c / 16 % 2 = omega (arith, div-div-eq-div-mul c 16 2) in
+    let e : c ≡ c / 16 * 16 + c % 16 = omega arith in
+    omega arith
+
+pub control1-spelled : (n c : ℕ) → c < 256 → Kept (control1Rows (first n c) c) → control1 (first n c) ≡ c
+control1-spelled n c h k =
+    let t : c / 128 ≡ 1 = omega (arith, eqb-false (c / 128) 0 (k .0)) in
+    let r : c / 64 % 2 ≡ 0 = omega (arith, eqb-false (c / 64 % 2) 1 (k .1 .0)) in
+    omega (arith, halves c h, bit-of (c / 32 % 2) (omega arith), bit-of (c / 16 % 2) (omega arith))
+
+pub control2-spelled : (f : Fields) (d : ℕ) → d < 256 → Kept (control2Rows (second f d) d) → control2 (second f d) ≡ d
+control2-spelled f d h k =
+    let r : d / 32 % 4 ≡ 0 = eqb-true (d / 32 % 4) 0 (not-false (eqb (d / 32 % 4) 0) (k .1 .0)) in
+    let t : d / 128 ≡ 0 = omega (arith, eqb-false (d / 128) 1 (k .0)) in
+    let q : d / 32 ≡ 0 = omega (arith, div-div-eq-div-mul d 32 4) in
+    let s : d / 16 < 2 = omega (arith, div-div-eq-div-mul d 16 2) in
+    omega (arith, bit-of (d / 16 % 2) (omega arith))
+
+-- a flag is read back from where it stands
+flag16 : (a : Bool) (c h x : ℕ) → x < 16 → c ≡ h * 32 + (bit a * 16 + x) → eqb (c / 16 % 2) 1 ≡ a
+flag16 true c h x l e = let q : c / 16 ≡ h * 2 + 1 = omega arith in eq-eqb (c / 16 % 2) 1 (omega arith)
+flag16 false c h x l e = let q : c / 16 ≡ h * 2 = omega arith in ne-eqb (c / 16 % 2) 1 (λ z. omega arith)
+
+flag32 : (a : Bool) (c h x : ℕ) → x < 32 → c ≡ h * 64 + (bit a * 32 + x) → eqb (c / 32 % 2) 1 ≡ a
+flag32 true c h x l e = let q : c / 32 ≡ h * 2 + 1 = omega arith in eq-eqb (c / 32 % 2) 1 (omega arith)
+flag32 false c h x l e = let q : c / 32 ≡ h * 2 = omega arith in ne-eqb (c / 32 % 2) 1 (λ z. omega arith)
+
+bit-small : (a : Bool) → bit a ≤ 1
+bit-small true = omega arith
+bit-small false = omega arith
+
+pub size-kept : (n : ℕ) → Kept (sizeRows n) → (1 ≤ n) × (n ≤ 64)
+size-kept n k = (omega (arith, eqb-false n 0 (k .0)), ltb-false 64 n (k .1 .1 .0))
+
+pub size-rows : (n : ℕ) → 1 ≤ n → n ≤ 64 → Kept (sizeRows n)
+size-rows n h l = (ne-eqb n 0 (λ e. omega arith), (ne-eqb n 0x80 (λ e. omega arith), (le-ltb 64 n l, tt)))
+
+-- the fields of a lawful header are read back from its bytes
+module _ (f : Fields) (g : LawfulFirst f) where
+  pub clen-small : f .clen ≤ 8
+  clen-small = omega (arith, coefficient-sound (f .cf) (f .clen) (g .coefficient-length) .short, coefficient-length (f .cf) (f .clen) (g .coefficient-length))
+
+  pub control1-byte : control1 f < 256
+  control1-byte = omega (arith, clen-small, bit-small (f .cf), bit-small (f .cs))
+
+  pub first-back : first (f .n) (control1 f) ≡ second f 0
+  first-back = λ i. record {
+    n = f .n;
+    cs = flag32 (f .cs) (control1 f) 2 (bit (f .cf) * 16 + f .clen) (omega (arith, clen-small, bit-small (f .cf))) (omega arith) i;
+    cf = flag16 (f .cf) (control1 f) (4 + bit (f .cs)) (f .clen) (omega (arith, clen-small)) (omega arith) i;
+    clen = mod16 i;
+    sf = false;
+    slen = 0;
+  }
+    where
+      mod16 : control1 f % 16 ≡ f .clen
+      mod16 = omega (arith, clen-small)
+
+  pub first-rows : Kept (control1Rows (first (f .n) (control1 f)) (control1 f))
+  first-rows =
+      subst (λ (h : Fields). Kept (control1Rows h (control1 f))) (sym first-back)
+      (ne-eqb (control1 f / 128) 0 (λ e. omega arith), (ne-eqb (control1 f / 64 % 2) 1 (λ e. omega (arith, upper)), (rw (g .coefficient-length), (sparse-rows, (one-rows, tt)))))
+    where
+      upper : control1 f / 64 ≡ 2
+      upper = omega (arith, clen-small, bit-small (f .cf), bit-small (f .cs))
+
+      sparse-rows : f .cs && eqb (f .clen) 0 ≡ false
+      sparse-rows = either (f .cs) (λ e. rw (e, ne-eqb (f .clen) 0 (λ z. omega (arith, g .sparse e)))) (λ e. rw e)
+
+      one-rows : eqb (f .n) 1 && ltb 0 (f .clen) ≡ false
+      one-rows = either (eqb (f .n) 1) (λ e. rw (e, le-ltb 0 (f .clen) (omega (arith, g .size-one (eqb-true (f .n) 1 e))))) (λ e. rw e)
+
+module _ (f : Fields) (g : LawfulFields f) where
+  pub slen-small : f .slen ≤ 8
+  slen-small = omega (arith, deviation-sound (f .sf) (f .slen) (g .deviation-length) .short, deviation-length (f .sf) (f .slen) (g .deviation-length))
+
+  pub control2-byte : control2 f < 256
+  control2-byte = omega (arith, slen-small, bit-small (f .sf))
+
+  pub second-back : second (first (f .n) (control1 f)) (control2 f) ≡ f
+  second-back =
+      ap (λ (h : Fields). second h (control2 f)) (first-back f (g .first))
+      ∙ (λ i. record {
+        n = f .n;
+        cs = f .cs;
+        cf = f .cf;
+        clen = f .clen;
+        sf = flag16 (f .sf) (control2 f) 0 (f .slen) (omega (arith, slen-small)) (omega arith) i;
+        slen = mod16 i;
+      })
+    where
+      mod16 : control2 f % 16 ≡ f .slen
+      mod16 = omega (arith, slen-small)
+
+  pub second-rows : Kept (control2Rows f (control2 f))
+  second-rows =
+      let upper : control2 f / 32 ≡ 0 = omega (arith, slen-small, bit-small (f .sf)) in
+      let reserved : control2 f / 32 % 4 ≡ 0 = omega arith in
+      (ne-eqb (control2 f / 128) 1 (λ e. omega (arith, slen-small, bit-small (f .sf))), (rw (eq-eqb (control2 f / 32 % 4) 0 reserved), (rw (g .deviation-length), (either (eqb (f .slen) 0) (λ e. rw (e, ne-eqb (f .clen) 0 (λ z. omega (arith, g .some-length, eqb-true (f .slen) 0 e)))) (λ e. rw e), tt))))

@@ -1,0 +1,381 @@
+-- The machine of matrix packs keeps the laws of machines. Assumes nothing.
+use Prim.Native.Nat.{ℕ, zero, suc, _+_, _-_, _*_, _/_, _%_, _^_, _≤_, _<_, min, max}
+use mathlib.Core.Path.{_≡_, refl, sym, ap, _∙_, subst}
+use mathlib.Core.Bool.{Bool, true, false, _&&_, cond, and-false, and-eq-true-iff, false≢true}
+use mathlib.Core.List.{List, [], _∷_}
+use mathlib.Core.Logic.{_⊎_, inl, inr, ⊎-elim}
+use native.Mathlib.Nat.{le-mul-of-pos-right, one-le-pow, zero-div, div-eq-of-eq-mul-left, pow-suc, mul-zero, zero-mul, suc-mul, mod-lt, mul-le-mul-right, mul-mod-right, zero-mod, add-zero, le-trans, mul-le-mul-left, min-le-left, mul-assoc}
+use native.Mathlib.Omega.{arith}
+use borrow.Author.Tests.{eqb-false, ltb-false, ltb-true, eqb-true, ne-eqb, le-ltb, eq-eqb, not-false}
+use lib.Dec.{eqb, ltb, lit<}
+use lib.Pow.{pow-add}
+use Rattle.verdict.specs.Rows.{Row, judged}
+use Rattle.verdict.proofs.Judging.{Kept, judged-kept, judged-by}
+use Rattle.verdict.specs.Machine.{Move, on, done, Falls, Nears, Laws}
+use Rattle.word.proofs.Certain.{deviation-sound, coefficient-sound, deviation-length, coefficient-length}
+use Rattle.matrix.specs.declared.Fields.{Fields}
+use Rattle.verdict.proofs.Cases.{by-test, either, and-right}
+use Rattle.word.specs.Digits.{digits}
+use Rattle.word.specs.declared.rules.Rule.{Rule}
+use Rattle.word.specs.Rules.{allowed, cleared, Sound}
+use Rattle.matrix.specs.Meaning.{pairs, sum, LawfulFirst, LawfulFields}
+use Rattle.matrix.specs.Spelling.{bit, vectorBytes, first, second}
+use Rattle.matrix.specs.Table.{sizeRows, control1Rows, control2Rows, vectorRows, wordRows}
+use Rattle.matrix.specs.Machine.{State, size, control1, control2, vector, word, Run, enter, enterRun, enterWord, runBytes, inWord, restOf, wordsOf, allSent, enterValues, step, least, leastFor, leastValues, fewest, GoodRuns, GoodRun, GoodWord, GoodVector, Good}
+use Rattle.matrix.proofs.BitVector.{sum-append}
+use Rattle.matrix.proofs.ControlBytes.{size-kept}
+use Rattle.matrix.proofs.Pairs.{pairs-some, pairs-most}
+
+-- by a test of two numbers
+by-eqb : {X : Type 0} (P : X → Type 0) (a b : ℕ) (x y : X) → (a ≡ b → P x) → ((a ≡ b → ⊥) → P y) → P (cond (eqb a b) x y)
+by-eqb P a b x y f g = by-test P (eqb a b) x y (λ e. f (eqb-true a b e)) (λ e. g (eqb-false a b e))
+
+least-some : (n : ℕ) → 1 ≤ n → 1 ≤ leastFor n
+least-some n h = by-eqb (λ (k : ℕ). 1 ≤ k) n 1 1 (min n (min (pairs n) ((pairs n + 7) / 8 + 1))) (λ e. omega arith) (λ ne. omega (arith, pairs-some n (omega arith)))
+
+falls-size : (b : ℕ) → Falls least Good 4 (step size b)
+falls-size b =
+    judged-by (Falls least Good 4) (sizeRows b) (on (control1 b)) (λ r. tt)
+    (λ k. let s = size-kept b k in (s, omega (arith, least-some b (s .0))))
+
+nears-size : Nears least 4 (step size 1)
+unfolding judged
+nears-size = refl
+
+-- what the rules of control byte 1 leave
+pub first-kept : (n b : ℕ) → 1 ≤ n → n ≤ 64 → Kept (control1Rows (first n b) b) → LawfulFirst (first n b)
+first-kept n b h g k =
+    let f = first n b in
+    record {
+      size-least = h;
+      size-most = g;
+      coefficient-length = not-false (allowed (f .cf) (f .clen)) (k .1 .1 .0);
+      sparse = λ e. omega (arith, eqb-false (f .clen) 0 (and-right (f .cs) (eqb (f .clen) 0) (k .1 .1 .1 .0) e));
+      size-one = λ e. omega (arith, ltb-false 0 (f .clen) (and-right (eqb n 1) (ltb 0 (f .clen)) (k .1 .1 .1 .1 .0) (eq-eqb n 1 e)));
+    }
+
+-- the fewest values behind control byte 1 are no more than those behind any lawful one
+least-first : (f : Fields) → LawfulFirst f → leastFor (f .n) ≤ leastValues f
+least-first f g = go (f .cs) refl
+  where
+    two : 0 < f .clen → 2 ≤ f .n
+    two h = by-eqb (λ (k : ℕ). 2 ≤ f .n) (f .n) 1 0 0 (λ e. absurd (omega (arith, g .size-one e))) (λ ne. omega (arith, g .size-least))
+
+    many : (f .n ≡ 1 → ⊥) → leastFor (f .n) ≡ min (f .n) (min (pairs (f .n)) ((pairs (f .n) + 7) / 8 + 1))
+    many ne = rw (ne-eqb (f .n) 1 ne)
+
+    go : (cs : Bool) → f .cs ≡ cs → leastFor (f .n) ≤ cond cs (bit cs * ((pairs (f .n) + 7) / 8) + min (f .clen) (f .n)) (cond (eqb (f .clen) 0) (f .n) (pairs (f .n) * f .clen))
+    go true e = let h = g .sparse e in omega (arith, many (λ o. omega (arith, two h)), two h)
+    go false e =
+        by-eqb (λ (k : ℕ). leastFor (f .n) ≤ k) (f .clen) 0 (f .n) (pairs (f .n) * f .clen)
+        (λ z. by-eqb (λ (k : ℕ). k ≤ f .n) (f .n) 1 1 (min (f .n) (min (pairs (f .n)) ((pairs (f .n) + 7) / 8 + 1))) (λ o. g .size-least) (λ ne. omega arith))
+        (λ nz. let h : 0 < f .clen = omega arith in omega (arith, many (λ o. omega (arith, two h)), le-mul-of-pos-right (pairs (f .n)) h))
+
+falls-control1 : (n b : ℕ) → Good (control1 n) → Falls least Good (least (control1 n)) (step (control1 n) b)
+falls-control1 n b g =
+    judged-by (Falls least Good (least (control1 n))) (control1Rows (first n b) b) (on (control2 (first n b))) (λ r. tt)
+    (λ k. let l = first-kept n b (g .0) (g .1) k in (l, omega (arith, least-first (first n b) l)))
+
+-- some byte brings the machine nearer
+abbrev Near : State → Type 0
+Near s = (b : ℕ) × (b < 256) × Nears least (least s) (step s b)
+
+-- a byte that breaks no rule brings it nearer where the field's move does
+near-kept : (n : ℕ) (rows : List Row) (next : Move State) → Kept rows → Nears least n next → Nears least n (judged rows next)
+near-kept n rows next k x = subst (Nears least n) (sym (judged-kept rows next k)) x
+
+nears-control1 : (n : ℕ) → Good (control1 n) → Near (control1 n)
+nears-control1 n g = either (eqb n 1) (λ e. without (rw e (sym (eqb-true n 1 e)))) (λ e. many (eqb-false n 1 e) (rw e))
+  where
+    byte : (b : ℕ) → b < 256 → Kept (control1Rows (first n b) b) → leastFor n ≡ leastValues (first n b) → Near (control1 n)
+    byte b h k e = (b, h, near-kept (2 + leastFor n) (control1Rows (first n b) b) (on (control2 (first n b))) k (omega arith))
+
+    without : leastFor n ≡ n → Near (control1 n)
+    without e = byte 0x80 (lit< tt) (refl, (refl, (refl, (refl, (and-false (eqb n 1), tt))))) e
+
+    many : (n ≡ 1 → ⊥) → leastFor n ≡ min n (min (pairs n) ((pairs n + 7) / 8 + 1)) → Near (control1 n)
+    many ne e =
+        let one : eqb n 1 && true ≡ false = rw (ne-eqb n 1 ne) in
+        either (ltb n (min (pairs n) ((pairs n + 7) / 8 + 1))) (λ t. without (omega (arith, ltb-true n _ t)))
+        (λ f. either (ltb (pairs n) ((pairs n + 7) / 8 + 1))
+        (λ t. byte 0x91 (lit< tt) (refl, (refl, (refl, (refl, (one, tt))))) (omega (arith, ltb-true (pairs n) _ t, ltb-false n _ f)))
+        (λ s. byte 0xB1 (lit< tt) (refl, (refl, (refl, (refl, (one, tt))))) (omega (arith, ltb-false (pairs n) _ s, ltb-false n _ f))))
+
+pow-some : (n : ℕ) → 0 < 256 ^ n
+pow-some n = one-le-pow n 256 (lit< tt)
+
+-- the first byte's share of a rule's sign is none or 128
+pub first-sign : (rule : Rule) (more : ℕ) → Sound rule → rule .length ≡ suc more → (rule .sign / 256 ^ more ≡ 0) ⊎ ((rule .sign / 256 ^ more ≡ 128) × (rule .greatest < 128 * 256 ^ more))
+first-sign rule more s e =
+    ⊎-elim (λ z. inl (rw z (zero-div (256 ^ more))))
+    (λ h. let d : rule .sign ≡ 128 * 256 ^ more = omega (arith, h .0, ap (λ (k : ℕ). 256 ^ k) e, pow-suc 256 more) in inr (div-eq-of-eq-mul-left (pow-some more) d, omega (arith, h .1)))
+    (s .signed)
+
+good-start : (run : Run) (runs : List Run) (more count : ℕ) → GoodRun run → GoodRuns runs → run .rule .length ≡ suc more → run .count ≡ suc count
+    → GoodWord more (run .rule .sign / 256 ^ more) (run .rule .greatest) (record { rule = run .rule; count = count }) runs
+good-start run runs more count g h e c =
+    record {
+      short = omega (arith, g .sound .short);
+      signed = first-sign (run .rule) more (g .sound) e;
+      room = rw e at (g .sound .room);
+      first = record { sound = g .sound; counted = omega (arith, g .counted) };
+      others = h;
+    }
+
+-- a machine that enters some words is in a good state from which their bytes are missing, or done where they have none
+enter-by : (P : Move State → Type 0) (runs : List Run) → GoodRuns runs → (runBytes runs ≡ 0 → P done) → ((t : State) → Good t → least t ≡ runBytes runs → P (on t)) → P (enter runs)
+unfolding enter runBytes
+enter-by P [] g end next = end refl
+enter-by P (run ∷ runs) g end next =
+    many (λ z. enter-by P runs (g .1) (λ e. end (omega arith)) (λ t h e. next t h (omega arith))) (run .count) refl
+  where
+    one : (run .count * run .rule .length ≡ 0 → P (enter runs)) → (count : ℕ) → run .count ≡ suc count → (l : ℕ) → run .rule .length ≡ l → P (enterWord l (run .rule) count runs (enter runs))
+    one past count c zero e = past (rw e (mul-zero (run .count)))
+    one past count c (suc k) e =
+        next (word k (run .rule .sign / 256 ^ k) (run .rule .greatest) (record { rule = run .rule; count = count }) runs) (good-start run runs k count (g .0) (g .1) e c)
+        (let m : run .count * run .rule .length ≡ count * run .rule .length + run .rule .length = rw c (suc-mul count (run .rule .length)) in omega arith)
+
+    many : (run .count * run .rule .length ≡ 0 → P (enter runs)) → (c : ℕ) → run .count ≡ c → P (enterRun (run .rule) c runs (enter runs))
+    many past zero e = past (rw e (zero-mul (run .rule .length)))
+    many past (suc count) e = one past count e (run .rule .length) refl
+
+enter-falls : (runs : List Run) (n : ℕ) → GoodRuns runs → n ≤ suc (runBytes runs) → Falls least Good n (enter runs)
+enter-falls runs n g h = enter-by (Falls least Good n) runs g (λ e. omega arith) (λ t k e. (k, omega arith))
+
+enter-nears : (runs : List Run) (n : ℕ) → GoodRuns runs → n ≡ suc (runBytes runs) → Nears least n (enter runs)
+enter-nears runs n g h = enter-by (Nears least n) runs g (λ e. omega arith) (λ t k e. omega arith)
+
+-- behind a byte of a word
+word-falls : (more top : ℕ) (run : Run) (runs : List Run) → suc more ≤ 8 → top < 256 ^ more → GoodRun run → GoodRuns runs
+    → Falls least Good (suc more + runBytes (run ∷ runs)) (inWord more top run runs)
+unfolding runBytes
+word-falls zero top run runs s r g h = enter-falls (run ∷ runs) _ (g, h) (omega arith)
+word-falls (suc more) top run runs s r g h = (record { short = omega arith; signed = inl refl; room = r; first = g; others = h }, omega arith)
+
+word-nears : (more top : ℕ) (run : Run) (runs : List Run) → GoodRun run → GoodRuns runs → Nears least (suc more + runBytes (run ∷ runs)) (inWord more top run runs)
+unfolding runBytes
+word-nears zero top run runs g h = enter-nears (run ∷ runs) _ (g, h) (omega arith)
+word-nears (suc more) top run runs g h = omega arith
+
+rest-room : (more top b : ℕ) → restOf more top b < 256 ^ more
+rest-room more top b = by-test (λ (k : ℕ). k < 256 ^ more) (ltb b (top / 256 ^ more)) _ _ (λ e. omega (arith, pow-some more)) (λ e. mod-lt top (pow-some more))
+
+falls-word : (more sign top b : ℕ) (run : Run) (runs : List Run) → GoodWord more sign top run runs → Falls least Good (least (word more sign top run runs)) (step (word more sign top run runs) b)
+unfolding runBytes
+falls-word more sign top b run runs g =
+    judged-by (Falls least Good (suc more + runBytes (run ∷ runs))) (wordRows (ltb (top / 256 ^ more) (cleared sign b))) (inWord more (restOf more top (cleared sign b)) run runs) (λ r. tt)
+    (λ k. word-falls more (restOf more top (cleared sign b)) run runs (g .short) (rest-room more top (cleared sign b)) (g .first) (g .others))
+
+-- the byte 0 fits any limit
+nears-word : (more sign top : ℕ) (run : Run) (runs : List Run) → GoodWord more sign top run runs → Near (word more sign top run runs)
+unfolding runBytes
+nears-word more sign top run runs g =
+    let z : cleared sign 0 ≡ 0 = ⊎-elim (λ e. rw e) (λ e. rw (e .0)) (g .signed) in (
+      0,
+      lit< tt,
+      near-kept (suc more + runBytes (run ∷ runs)) (wordRows (ltb (top / 256 ^ more) (cleared sign 0))) (inWord more (restOf more top (cleared sign 0)) run runs)
+          (rw z (le-ltb (top / 256 ^ more) 0 (omega arith)), tt) (word-nears more (restOf more top (cleared sign 0)) run runs (g .first) (g .others)),
+    )
+
+-- what the rules of control byte 2 leave
+pub second-kept : (f : Fields) (b : ℕ) → LawfulFirst f → Kept (control2Rows (second f b) b) → LawfulFields (second f b)
+second-kept f b g k =
+    let s = second f b in
+    record {
+      first = record { size-least = g .size-least; size-most = g .size-most; coefficient-length = g .coefficient-length; sparse = g .sparse; size-one = g .size-one };
+      deviation-length = not-false (allowed (s .sf) (s .slen)) (k .1 .1 .0);
+      some-length = either (eqb (s .slen) 0) (λ e. omega (arith, eqb-false (s .clen) 0 (and-right (eqb (s .slen) 0) (eqb (s .clen) 0) (k .1 .1 .1 .0) e))) (λ e. omega (arith, eqb-false (s .slen) 0 e));
+    }
+
+-- a pack with coefficients has two variables or more
+pub two-sizes : (f : Fields) → LawfulFirst f → 0 < f .clen → 2 ≤ f .n
+two-sizes f g h = either (eqb (f .n) 1) (λ e. absurd (omega (arith, g .size-one (eqb-true (f .n) 1 e)))) (λ e. omega (arith, g .size-least, eqb-false (f .n) 1 e))
+
+-- the words of a matrix are good runs, and their bytes
+pub words-good : (f : Fields) (sent : ℕ) → LawfulFields f → sent ≤ 2016 → GoodRuns (wordsOf f sent)
+words-good f sent g h = (
+  record { sound = deviation-sound (f .sf) (f .slen) (g .deviation-length); counted = omega (arith, g .first .size-most) },
+  (record { sound = coefficient-sound (f .cf) (f .clen) (g .first .coefficient-length); counted = h }, tt),
+)
+
+word-bytes : (f : Fields) (sent : ℕ) → LawfulFields f → runBytes (wordsOf f sent) ≡ f .n * f .slen + sent * f .clen
+unfolding runBytes
+word-bytes f sent g = rw (deviation-length (f .sf) (f .slen) (g .deviation-length), coefficient-length (f .cf) (f .clen) (g .first .coefficient-length)) (omega arith)
+
+-- ---- behind the control bytes
+
+pub all-most : (f : Fields) → LawfulFields f → allSent f ≤ 2016
+all-most f g = le-trans (mul-le-mul-left {n = 1} (pairs (f .n)) (min-le-left 1 (f .clen))) (omega (arith, pairs-most (f .n) (g .first .size-most)))
+
+full-bytes : (f : Fields) → LawfulFields f → runBytes (wordsOf f (allSent f)) ≡ f .n * f .slen + pairs (f .n) * f .clen
+full-bytes f g = word-bytes f (allSent f) g ∙ ap (λ (k : ℕ). f .n * f .slen + k) (mul-assoc (pairs (f .n)) (min 1 (f .clen)) (f .clen) ∙ ap (λ (k : ℕ). pairs (f .n) * k) (one-each (f .clen)))
+  where
+    one-each : (k : ℕ) → min 1 k * k ≡ k
+    one-each zero = refl
+    one-each (suc k) = let e : min 1 (suc k) ≡ 1 = omega arith in rw e (omega arith)
+
+least-full : (f : Fields) → LawfulFields f → f .cs ≡ false → leastValues f ≤ f .n * f .slen + pairs (f .n) * f .clen
+least-full f g e =
+    rw e (by-eqb (λ (k : ℕ). k ≤ f .n * f .slen + pairs (f .n) * f .clen) (f .clen) 0 (f .n) (pairs (f .n) * f .clen)
+    (λ z. omega (arith, le-mul-of-pos-right (f .n) (positive z))) (λ z. omega arith))
+  where
+    positive : f .clen ≡ 0 → 0 < f .slen
+    positive z = omega (arith, g .some-length)
+
+least-sparse : (f : Fields) → f .cs ≡ true → leastValues f ≤ vectorBytes f + (f .n * f .slen + fewest f 0 * f .clen)
+least-sparse f e =
+    rw e (by-eqb (λ (k : ℕ). 1 * ((pairs (f .n) + 7) / 8) + min (f .clen) (f .n) ≤ 1 * ((pairs (f .n) + 7) / 8) + (f .n * f .slen + max 0 k * f .clen)) (f .slen) 0 1 0
+    (λ z. omega arith) (λ z. omega (arith, le-mul-of-pos-right {m = f .slen} (f .n) (omega arith))))
+
+pub vector-none : (f : Fields) → f .cs ≡ false → vectorBytes f ≡ 0
+vector-none f e = rw e (zero-mul ((pairs (f .n) + 7) / 8))
+
+pub vector-some : (f : Fields) → LawfulFirst f → f .cs ≡ true → vectorBytes f ≡ suc (vectorBytes f - 1)
+vector-some f g e = rw e (omega (arith, pairs-some (f .n) (two-sizes f g (g .sparse e))))
+
+good-vector : (f : Fields) → LawfulFields f → f .cs ≡ true → GoodVector f (vectorBytes f - 1) 0
+good-vector f g e = record { fields = g; sparse = e; within = omega (arith, vector-some f (g .first) e); counted = omega arith }
+
+pub values-by : (P : Move State → Type 0) (f : Fields) → LawfulFirst f → (f .cs ≡ false → P (enter (wordsOf f (allSent f)))) → (f .cs ≡ true → P (on (vector f (vectorBytes f - 1) 0))) → P (enterValues f (vectorBytes f))
+values-by P f g full sparse =
+    either (f .cs) (λ e. subst (λ (k : ℕ). P (enterValues f k)) (sym (vector-some f g e)) (sparse e)) (λ e. subst (λ (k : ℕ). P (enterValues f k)) (sym (vector-none f e)) (full e))
+
+values-falls : (f : Fields) → LawfulFields f → Falls least Good (1 + leastValues f) (enterValues f (vectorBytes f))
+values-falls f g =
+    values-by (Falls least Good (1 + leastValues f)) f (g .first)
+    (λ e. enter-falls (wordsOf f (allSent f)) (1 + leastValues f) (words-good f (allSent f) g (all-most f g)) (omega (arith, full-bytes f g, least-full f g e)))
+    (λ e. (good-vector f g e, omega (arith, vector-some f (g .first) e, least-sparse f e)))
+
+falls-control2 : (f : Fields) (b : ℕ) → LawfulFirst f → Falls least Good (least (control2 f)) (step (control2 f) b)
+falls-control2 f b g =
+    judged-by (Falls least Good (least (control2 f))) (control2Rows (second f b) b) (enterValues (second f b) (vectorBytes f)) (λ r. tt)
+    (λ k. values-falls (second f b) (second-kept f b g k))
+
+values-nears : (f : Fields) → LawfulFields f → (f .cs ≡ false → leastValues f ≡ f .n * f .slen + pairs (f .n) * f .clen)
+    → (f .cs ≡ true → leastValues f ≡ vectorBytes f + (f .n * f .slen + fewest f 0 * f .clen)) → Nears least (1 + leastValues f) (enterValues f (vectorBytes f))
+values-nears f g full sparse =
+    values-by (Nears least (1 + leastValues f)) f (g .first)
+    (λ e. enter-nears (wordsOf f (allSent f)) (1 + leastValues f) (words-good f (allSent f) g (all-most f g)) (omega (arith, full-bytes f g, full e)))
+    (λ e. omega (arith, vector-some f (g .first) e, sparse e))
+
+-- no deviations, or mapped ones of one byte
+nears-control2 : (f : Fields) → LawfulFirst f → Near (control2 f)
+nears-control2 f g = either (f .cs) sparse full
+  where
+    byte : (b : ℕ) → b < 256 → Kept (control2Rows (second f b) b) → (f .cs ≡ false → leastValues f ≡ f .n * (b % 16) + pairs (f .n) * f .clen)
+        → (f .cs ≡ true → leastValues f ≡ vectorBytes f + (f .n * (b % 16) + fewest (second f b) 0 * f .clen)) → Near (control2 f)
+    byte b h k full sparse =
+        (b, h, near-kept (1 + leastValues f) (control2Rows (second f b) b) (enterValues (second f b) (vectorBytes f)) k (values-nears (second f b) (second-kept f b g k) full sparse))
+
+    with-none : 0 < f .clen → Kept (control2Rows (second f 0) 0)
+    with-none h = (refl, (refl, (refl, (ne-eqb (f .clen) 0 (λ e. omega arith), tt))))
+
+    with-one : Kept (control2Rows (second f 0x11) 0x11)
+    with-one = (refl, (refl, (refl, (refl, tt))))
+
+    sparse : f .cs ≡ true → Near (control2 f)
+    sparse e =
+        either (ltb (f .n) (f .clen))
+        (λ t. byte 0x11 (lit< tt) with-one (λ x. absurd (false≢true (sym x ∙ e))) (λ x. rw e (omega (arith, ltb-true (f .n) (f .clen) t))))
+        (λ t. byte 0 (lit< tt) (with-none (g .sparse e)) (λ x. absurd (false≢true (sym x ∙ e))) (λ x. rw e (omega (arith, ltb-false (f .n) (f .clen) t))))
+
+    full : f .cs ≡ false → Near (control2 f)
+    full e =
+        either (eqb (f .clen) 0)
+        (λ t. byte 0x11 (lit< tt) with-one (λ x. rw (e, t) (omega (arith, ap (λ (k : ℕ). pairs (f .n) * k) (eqb-true (f .clen) 0 t), mul-zero (pairs (f .n))))) (λ x. absurd (false≢true (sym e ∙ x))))
+        (λ t. byte 0 (lit< tt) (with-none (omega (arith, eqb-false (f .clen) 0 t))) (λ x. rw (e, t) (omega arith)) (λ x. absurd (false≢true (sym e ∙ x))))
+
+-- ---- in the bit vector
+
+pub sum-bits : (n b : ℕ) → sum (digits 2 n b) ≤ n
+unfolding sum digits
+sum-bits zero b = omega arith
+sum-bits (suc n) b = rw (sum-append (digits 2 n (b / 2)) (b % 2 ∷ [])) (omega (arith, sum-bits n (b / 2)))
+
+fewest-more : (f : Fields) (a b : ℕ) → a ≤ b → fewest f a ≤ fewest f b
+fewest-more f a b h = omega arith
+
+-- what the rules of the last vector byte leave: a coefficient, where there are no deviations
+sent-kept : (f : Fields) (sent b : ℕ) → Kept (vectorRows f sent b) → fewest f sent ≡ sent
+sent-kept f sent b k =
+    by-eqb (λ (m : ℕ). max sent m ≡ sent) (f .slen) 0 1 0 (λ z. omega (arith, eqb-false sent 0 (and-right (eqb (f .slen) 0) (eqb sent 0) (k .1 .0) (eq-eqb (f .slen) 0 z)))) (λ z. omega arith)
+
+pub vector-most : (f : Fields) → LawfulFields f → vectorBytes f * 8 ≤ 2016
+vector-most f g = by-bit (f .cs)
+  where
+    by-bit : (t : Bool) → bit t * ((pairs (f .n) + 7) / 8) * 8 ≤ 2016
+    by-bit true = omega (arith, pairs-most (f .n) (g .first .size-most))
+    by-bit false = omega arith
+
+falls-vector : (f : Fields) (more sent b : ℕ) → GoodVector f more sent → Falls least Good (least (vector f more sent)) (step (vector f more sent) b)
+falls-vector f (suc more) sent b g =
+    let s = sent + sum (digits 2 8 b) in (
+      record { fields = g .fields; sparse = g .sparse; within = omega (arith, g .within); counted = omega (arith, g .within, g .counted, sum-bits 8 b) },
+      omega (arith, mul-le-mul-right (f .clen) (fewest-more f sent s (omega arith))),
+    )
+falls-vector f zero sent b g =
+    let s = sent + sum (digits 2 8 b) in
+    let n = least (vector f zero sent) in
+    judged-by (Falls least Good n) (vectorRows f s b) (enter (wordsOf f s)) (λ r. tt)
+    (λ k. enter-falls (wordsOf f s) n (words-good f s (g .fields) (omega (arith, g .within, g .counted, sum-bits 8 b, vector-most f (g .fields))))
+    (omega (arith, word-bytes f s (g .fields), mul-le-mul-right (f .clen) (fewest-more f sent s (omega arith)), ap (λ (m : ℕ). m * f .clen) (sent-kept f s b k))))
+
+-- the top bit of a byte is used, whatever the vector's end leaves unused
+top-bit : (u : ℕ) → u ≤ 7 → 128 % 2 ^ u ≡ 0
+top-bit u h = let e : u + (7 - u) ≡ 7 = omega arith in ap (λ (k : ℕ). 2 ^ k % 2 ^ u) (sym e) ∙ rw (pow-add 2 u (7 - u)) (mul-mod-right (2 ^ u) (2 ^ (7 - u)))
+
+unused : (f : Fields) → f .cs ≡ true → vectorBytes f * 8 - pairs (f .n) ≤ 7
+unused f e = rw e (omega arith)
+
+last-byte : (f : Fields) (sent b : ℕ) → GoodVector f zero sent → b < 256 → Kept (vectorRows f (sent + sum (digits 2 8 b)) b) → fewest f sent ≡ sent + sum (digits 2 8 b) → Near (vector f zero sent)
+last-byte f sent b g h k e =
+    let s = sent + sum (digits 2 8 b) in
+    let n = least (vector f zero sent) in (
+      b,
+      h,
+      near-kept n (vectorRows f s b) (enter (wordsOf f s)) k
+          (enter-nears (wordsOf f s) n (words-good f s (g .fields) (omega (arith, g .within, g .counted, sum-bits 8 b, vector-most f (g .fields))))
+          (omega (arith, word-bytes f s (g .fields), ap (λ (m : ℕ). m * f .clen) e))),
+    )
+
+no-ones : sum (digits 2 8 0) ≡ 0
+unfolding sum digits
+no-ones = refl
+
+top-one : sum (digits 2 8 128) ≡ 1
+unfolding sum digits
+top-one = refl
+
+-- no further ones, but a first one at the vector's end where there is no other value
+nears-vector : (f : Fields) (more sent : ℕ) → GoodVector f more sent → Near (vector f more sent)
+nears-vector f (suc more) sent g = (0, lit< tt, rw (no-ones, add-zero sent) (omega arith))
+nears-vector f zero sent g = either (eqb (f .slen) 0 && eqb sent 0) first-one no-more
+  where
+    first-one : eqb (f .slen) 0 && eqb sent 0 ≡ true → Near (vector f zero sent)
+    first-one t =
+        let b = and-eq-true-iff (eqb (f .slen) 0) (eqb sent 0) .0 t in
+        last-byte f sent 128 g (lit< tt)
+        (rw (top-bit (vectorBytes f * 8 - pairs (f .n)) (unused f (g .sparse))), (rw (top-one, ne-eqb (sent + 1) 0 (λ e. omega arith)) (and-false (eqb (f .slen) 0)), tt))
+        (rw (top-one, b .0) (omega (arith, eqb-true sent 0 (b .1))))
+
+    no-more : eqb (f .slen) 0 && eqb sent 0 ≡ false → Near (vector f zero sent)
+    no-more t =
+        let k : Kept (vectorRows f sent 0) = (rw (zero-mod (2 ^ (vectorBytes f * 8 - pairs (f .n)))), (t, tt)) in
+        last-byte f sent 0 g (lit< tt) (rw (no-ones, add-zero sent) k) (rw (no-ones, add-zero sent) (sent-kept f sent 0 k))
+
+pub matrix-laws : Laws step least Good
+matrix-laws = record { falls = falls; nears = nears }
+  where
+    falls : (s : State) → Good s → (b : ℕ) → b < 256 → Falls least Good (least s) (step s b)
+    falls size g b h = falls-size b
+    falls (control1 n) g b h = falls-control1 n b g
+    falls (control2 f) g b h = falls-control2 f b g
+    falls (vector f more sent) g b h = falls-vector f more sent b g
+    falls (word more sign top run runs) g b h = falls-word more sign top b run runs g
+
+    nears : (s : State) → Good s → Near s
+    nears size g = (1, lit< tt, nears-size)
+    nears (control1 n) g = nears-control1 n g
+    nears (control2 f) g = nears-control2 f g
+    nears (vector f more sent) g = nears-vector f more sent g
+    nears (word more sign top run runs) g = nears-word more sign top run runs g

@@ -1,0 +1,128 @@
+-- The machine of matrix packs gives the reasons of document 01's table. Assumes nothing.
+use Prim.Native.Nat.{ℕ, zero, suc, _+_, _-_, _/_, _^_, _<_, _≤_}
+use mathlib.Core.Path.{_≡_, sym, ap, _∙_, subst}
+use mathlib.Core.Bool.{Bool, true, false}
+use mathlib.Core.Logic.{_⊎_, inl, inr, ⊎-elim}
+use mathlib.Core.List.{List, [], _∷_}
+use native.Mathlib.Nat.{zero-add}
+use native.Mathlib.Omega.{arith}
+use borrow.Author.Tests.{le-ltb, ne-eqb, eq-eqb}
+use lib.Dec.{ltb}
+use lib.ListN.{length, getD}
+use Rattle.verdict.specs.Rows.{Blamed}
+use Rattle.verdict.proofs.Judging.{Leads, judged-leads, one-blamed, Kept}
+use Rattle.verdict.specs.declared.Reason.{Reason}
+use Rattle.verdict.specs.declared.Reason.the-variants.{ValueRange}
+use Rattle.verdict.specs.Says.{OneReason}
+use Rattle.verdict.specs.Machine.{Move, on, done, Blames}
+use Rattle.word.specs.Rules.{cleared}
+use Rattle.word.specs.Digits.{digits}
+use Rattle.matrix.specs.declared.Fields.{Fields}
+use Rattle.matrix.specs.Meaning.{sum, LawfulFields}
+use Rattle.matrix.specs.Spelling.{bits, first, second, vectorBytes}
+use Rattle.matrix.specs.Table.{sizeRows, control1Rows, control2Rows, vectorRows, wordRows, valueRows, rowsOf, Why}
+use Rattle.matrix.proofs.Accepting.{sum-more, sum-last}
+use Rattle.matrix.proofs.ControlBytes.{size-kept}
+use Rattle.matrix.proofs.Keeping.{first-kept, second-kept, values-by, vector-none, vector-some}
+use Rattle.matrix.specs.Machine.{State, size, control1, control2, vector, word, Run, enter, enterRun, enterWord, inWord, restOf, enterValues, wordsOf, allSent, step}
+
+-- the table gives at most one reason
+pub one-reason : OneReason Why
+one-reason w = one-blamed (rowsOf w)
+
+-- ---- in words
+
+-- into words, or done
+enter-word : (P : Move State → Type 0) → P done → ((more sign top : ℕ) (run : Run) (runs : List Run) → P (on (word more sign top run runs))) → (runs : List Run) → P (enter runs)
+unfolding enter
+enter-word P d f [] = d
+enter-word P d f (run ∷ runs) = many (run .count) (enter-word P d f runs)
+  where
+    one : (l count : ℕ) → P (enter runs) → P (enterWord l (run .rule) count runs (enter runs))
+    one zero count p = p
+    one (suc more) count p = f more _ _ _ _
+
+    many : (count : ℕ) → P (enter runs) → P (enterRun (run .rule) count runs (enter runs))
+    many zero p = p
+    many (suc count) p = one (run .rule .length) count p
+
+words-lead : (w : List ℕ) (r : Reason) (runs : List Run) → ((more sign top : ℕ) (run : Run) (runs : List Run) → Blames step (word more sign top run runs) w r → ValueRange ≡ r) → Leads step w r (enter runs) → ValueRange ≡ r
+words-lead w r runs ih = enter-word (λ move. Leads step w r move → ValueRange ≡ r) (λ x. absurd x) ih runs
+
+word-blamed : (t : Bool) (r : Reason) → Blamed (wordRows t) r → ValueRange ≡ r
+unfolding Blamed
+word-blamed true r x = x
+word-blamed false r x = absurd x
+
+-- the only reason in a word is 11
+word-blames : (w : List ℕ) (r : Reason) (more sign top : ℕ) (run : Run) (runs : List Run) → Blames step (word more sign top run runs) w r → ValueRange ≡ r
+unfolding Blames
+word-blames [] r more sign top run runs x = absurd x
+word-blames (b ∷ w) r more sign top run runs x =
+    ⊎-elim (λ y. word-blamed (ltb (top / 256 ^ more) (cleared sign b)) r (y .1)) (λ y. behind more (restOf more top (cleared sign b)) (λ m s t u v. word-blames w r m s t u v) (y .1))
+    (judged-leads step (wordRows (ltb (top / 256 ^ more) (cleared sign b))) (inWord more (restOf more top (cleared sign b)) run runs) w r x)
+  where
+    behind : (more top : ℕ) → ((more sign top : ℕ) (run : Run) (runs : List Run) → Blames step (word more sign top run runs) w r → ValueRange ≡ r) → Leads step w r (inWord more top run runs) → ValueRange ≡ r
+    behind zero top ih = words-lead w r (run ∷ runs) ih
+    behind (suc more) top ih = ih more 0 top run runs
+
+-- nothing is refused behind no byte
+leads-some : (w : List ℕ) (r : Reason) (runs : List Run) → Leads step w r (enter runs) → 0 < length w
+unfolding Blames
+leads-some [] r runs x = absurd (enter-word (λ move. Leads step [] r move → ⊥) (λ y. y) (λ more sign top run rest y. y) runs x)
+leads-some (b ∷ w) r runs x = omega arith
+
+-- ---- in the bit vector and behind it
+
+-- behind a whole vector, or at its end
+vector-blames : (f : Fields) (more sent : ℕ) (w : List ℕ) (r : Reason) → Blames step (vector f more sent) w r
+    → ((suc more < length w) × (ValueRange ≡ r)) ⊎ ((length w ≡ suc more) × Blamed (vectorRows f (sent + sum (bits w)) (getD w more 0)) r)
+unfolding Blames
+vector-blames f more sent [] r x = absurd x
+vector-blames f zero sent (b ∷ w) r x =
+    ⊎-elim
+    (λ y. inr (ap (λ (l : List ℕ). suc (length l)) (y .0), subst (λ (l : List ℕ). Blamed (vectorRows f (sent + sum (bits (b ∷ l))) b) r) (sym (y .0)) (rw (sum-last sent b) (y .1))))
+    (λ y. inl (omega (arith, leads-some w r (wordsOf f (sent + sum (digits 2 8 b))) (y .1)), words-lead w r (wordsOf f (sent + sum (digits 2 8 b))) (word-blames w r) (y .1)))
+    (judged-leads step (vectorRows f (sent + sum (digits 2 8 b)) b) (enter (wordsOf f (sent + sum (digits 2 8 b)))) w r x)
+vector-blames f (suc more) sent (b ∷ w) r x =
+    ⊎-elim (λ y. inl (omega arith, y .1)) (λ y. inr (ap suc (y .0), subst (λ (s : ℕ). Blamed (vectorRows f s (getD w more 0)) r) (sym (sum-more sent b w)) (y .1)))
+    (vector-blames f more (sent + sum (digits 2 8 b)) w r x)
+
+values-blame : (f : Fields) → LawfulFields f → (w : List ℕ) (r : Reason) → Leads step w r (enterValues f (vectorBytes f)) → (0 < length w) × Blamed (valueRows f w) r
+unfolding Blamed
+values-blame f g w r =
+    values-by (λ move. Leads step w r move → (0 < length w) × Blamed (valueRows f w) r) f (g .first)
+    (λ e x. let some = leads-some w r (wordsOf f (allSent f)) x in
+    (some, rw (vector-none f e, le-ltb (length w) 0 (omega arith), ne-eqb (length w) 0 (λ z. omega arith)) (words-lead w r (wordsOf f (allSent f)) (word-blames w r) x)))
+    (λ e x. let v = vector-some f (g .first) e in
+    ⊎-elim (λ y. (omega (arith, y .0), rw (le-ltb (length w) (vectorBytes f) (omega (arith, y .0)), ne-eqb (length w) (vectorBytes f) (λ z. omega (arith, y .0))) (y .1)))
+    (λ y. let l : length w ≡ vectorBytes f = y .0 ∙ sym v in
+    (omega (arith, y .0), rw (le-ltb (length w) (vectorBytes f) (omega arith), eq-eqb (length w) (vectorBytes f) l) (rw zero-add at (y .1))))
+    (vector-blames f (vectorBytes f - 1) 0 w r x))
+
+-- ---- the table
+
+not-nil : {b : ℕ} {w : List ℕ} → b ∷ w ≡ [] → ⊥
+not-nil e = let n : _≡_ {A = ℕ} (suc _) 0 = ap length e in omega arith
+
+values-why : (n c d : ℕ) → LawfulFields (second (first n c) d) → (w : List ℕ) (r : Reason) → Leads step w r (enterValues (second (first n c) d) (vectorBytes (first n c))) → Why (n ∷ c ∷ d ∷ w) r
+values-why n c d g [] r x = absurd (let s = values-blame (second (first n c) d) g [] r x in omega (arith, s .0))
+values-why n c d g (b ∷ w) r x = values-blame (second (first n c) d) g (b ∷ w) r x .1
+
+pub blames-why : (w : List ℕ) (r : Reason) → Blames step size w r → Why w r
+unfolding Blames
+blames-why [] r x = absurd x
+blames-why (n ∷ []) r x = ⊎-elim (λ y. y .1) (λ y. absurd (y .1)) (judged-leads step (sizeRows n) (on (control1 n)) [] r x)
+blames-why (n ∷ c ∷ []) r x =
+    ⊎-elim (λ y. absurd (not-nil (y .0))) (λ y. ⊎-elim (λ z. z .1) (λ z. absurd (z .1)) (judged-leads step (control1Rows (first n c) c) (on (control2 (first n c))) [] r (y .1)))
+    (judged-leads step (sizeRows n) (on (control1 n)) (c ∷ []) r x)
+blames-why (n ∷ c ∷ d ∷ w) r x =
+    ⊎-elim (λ y. absurd (not-nil (y .0)))
+    (λ y. ⊎-elim (λ z. absurd (not-nil (z .0))) (λ z. second-why (size-kept n (y .0)) (z .0) w (z .1)) (judged-leads step (control1Rows (first n c) c) (on (control2 (first n c))) (d ∷ w) r (y .1)))
+    (judged-leads step (sizeRows n) (on (control1 n)) (c ∷ d ∷ w) r x)
+  where
+    second-why : (1 ≤ n) × (n ≤ 64) → Kept (control1Rows (first n c) c) → (w : List ℕ) → Leads step w r (step (control2 (first n c)) d) → Why (n ∷ c ∷ d ∷ w) r
+    second-why s k w x =
+        ⊎-elim (λ y. subst (λ (l : List ℕ). Why (n ∷ c ∷ d ∷ l) r) (sym (y .0)) (y .1))
+        (λ y. values-why n c d (second-kept (first n c) d (first-kept n c (s .0) (s .1) k) (y .0)) w r (y .1))
+        (judged-leads step (control2Rows (second (first n c) d) d) (enterValues (second (first n c) d) (vectorBytes (first n c))) w r x)

@@ -1,0 +1,9 @@
+pub mod Meaning
+pub mod Order
+pub mod Spelling
+pub mod Pack
+pub mod Table
+pub mod Machine
+pub mod Judgement
+pub mod Reading
+pub mod Walk

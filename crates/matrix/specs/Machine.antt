@@ -1,0 +1,149 @@
+-- The machine of matrix packs: what each byte does, and the fewest bytes that are missing in each state.
+use Prim.Native.Nat.{ℕ, zero, suc, _+_, _-_, _*_, _/_, _%_, _^_, _≤_, _<_, min, max}
+use mathlib.Core.Path.{_≡_}
+use mathlib.Core.Bool.{true, cond}
+use mathlib.Core.Logic.{_⊎_}
+use mathlib.Core.List.{List, [], _∷_}
+use lib.Dec.{eqb, ltb}
+use Rattle.verdict.specs.Rows.{judged}
+use Rattle.verdict.specs.declared.Verdict.{Verdict}
+use Rattle.verdict.specs.Machine.{Move, on, done, run, reach, led}
+use Rattle.word.specs.Digits.{digits}
+use Rattle.word.specs.declared.rules.Rule.{Rule}
+use Rattle.word.specs.Rules.{cleared, deviationRule, coefficientRule, Sound}
+use Rattle.matrix.specs.declared.Fields.{Fields}
+use Rattle.matrix.specs.Meaning.{pairs, sum, LawfulFirst, LawfulFields}
+use Rattle.matrix.specs.Spelling.{vectorBytes, first, second}
+use Rattle.matrix.specs.Table.{sizeRows, control1Rows, control2Rows, vectorRows, wordRows}
+
+-- some words of one rule
+pub record Run : Type 0 where
+  pub rule : Rule
+  pub count : ℕ
+
+-- what comes next: a field, or a byte of a word. A vector has `more` bytes, and a word `more` bytes, after the next one
+pub data State : Type 0 where
+  size : State
+  control1 : ℕ → State
+  control2 : Fields → State
+  -- the fields, the bytes after the next one, the ones so far
+  vector : Fields → ℕ → ℕ → State
+  -- the bytes after the next one, the next one's sign, what the rest of the word may be at most, the words behind it
+  word : ℕ → ℕ → ℕ → Run → List Run → State
+
+-- into the first word of so many bytes
+abbrev pub enterWord : ℕ → Rule → ℕ → List Run → Move State → Move State
+enterWord zero rule count runs next = next
+enterWord (suc more) rule count runs next = on (word more (rule .sign / 256 ^ more) (rule .greatest) (record { rule = rule; count = count }) runs)
+
+-- into a run of words, or past it where it has none
+abbrev pub enterRun : Rule → ℕ → List Run → Move State → Move State
+enterRun rule zero runs next = next
+enterRun rule (suc count) runs next = enterWord (rule .length) rule count runs next
+
+-- into the first word that has bytes; a pack ends where there is none
+unfoldable pub enter : List Run → Move State
+enter [] = done
+enter (run ∷ runs) = enterRun (run .rule) (run .count) runs (enter runs)
+
+-- the words of a matrix of which so many coefficients are sent
+abbrev pub wordsOf : Fields → ℕ → List Run
+wordsOf f sent = record { rule = deviationRule (f .sf) (f .slen); count = f .n } ∷ record { rule = coefficientRule (f .cf) (f .clen); count = sent } ∷ []
+
+-- how many coefficients are sent unless sparse: all, or none if they have no bytes
+abbrev pub allSent : Fields → ℕ
+allSent f = pairs (f .n) * min 1 (f .clen)
+
+-- behind the control bytes: the bit vector if sparse, else the words
+abbrev pub enterValues : Fields → ℕ → Move State
+enterValues f zero = enter (wordsOf f (allSent f))
+enterValues f (suc more) = on (vector f more 0)
+
+-- behind a byte of the vector with so many ones up to it
+abbrev pub inVector : Fields → ℕ → ℕ → ℕ → Move State
+inVector f zero sent b = judged (vectorRows f sent b) (enter (wordsOf f sent))
+inVector f (suc more) sent b = on (vector f more sent)
+
+-- behind a byte of a word, where the rest of it may be at most `top`
+abbrev pub inWord : ℕ → ℕ → Run → List Run → Move State
+inWord zero top run runs = enter (run ∷ runs)
+inWord (suc more) top run runs = on (word more 0 top run runs)
+
+-- what the rest of a word may be at most: anything behind a byte below the limit's, the limit's rest behind an equal one
+abbrev pub restOf : ℕ → ℕ → ℕ → ℕ
+restOf more top b = cond (ltb b (top / 256 ^ more)) (256 ^ more - 1) (top % 256 ^ more)
+
+abbrev pub step : State → ℕ → Move State
+step size b = judged (sizeRows b) (on (control1 b))
+step (control1 n) b = judged (control1Rows (first n b) b) (on (control2 (first n b)))
+step (control2 f) b = judged (control2Rows (second f b) b) (enterValues (second f b) (vectorBytes f))
+step (vector f more sent) b = inVector f more (sent + sum (digits 2 8 b)) b
+step (word more sign top run runs) b =
+    judged (wordRows (ltb (top / 256 ^ more) (cleared sign b))) (inWord more (restOf more top (cleared sign b)) run runs)
+
+-- the bytes of some words
+unfoldable pub runBytes : List Run → ℕ
+runBytes [] = 0
+runBytes (run ∷ runs) = run .count * run .rule .length + runBytes runs
+
+-- the fewest bytes of values behind control byte 2: N deviations of one byte without coefficients; all coefficients without
+-- deviations; the bit vector, and one coefficient or N deviations of one byte
+abbrev pub leastValues : Fields → ℕ
+leastValues f = cond (f .cs) (vectorBytes f + min (f .clen) (f .n)) (cond (eqb (f .clen) 0) (f .n) (pairs (f .n) * f .clen))
+
+-- the fewest bytes of values behind control byte 1: the same, where two variables or more may also have coefficients of one byte, all or sparse
+abbrev pub leastFor : ℕ → ℕ
+leastFor n = cond (eqb n 1) 1 (min n (min (pairs n) ((pairs n + 7) / 8 + 1)))
+
+-- how many coefficients there are at least where so many ones were seen: one, where there are no deviations
+abbrev pub fewest : Fields → ℕ → ℕ
+fewest f sent = max sent (cond (eqb (f .slen) 0) 1 0)
+
+-- the fewest bytes that are missing
+abbrev pub least : State → ℕ
+least size = 4
+least (control1 n) = 2 + leastFor n
+least (control2 f) = 1 + leastValues f
+least (vector f more sent) = suc more + (f .n * f .slen + fewest f sent * f .clen)
+least (word more sign top run runs) = suc more + (run .count * run .rule .length + runBytes runs)
+
+-- a run of words that code can count
+pub record GoodRun (run : Run) : Type 0 where
+  pub sound : Sound (run .rule)
+  pub counted : run .count ≤ 2016
+
+abbrev pub GoodRuns : List Run → Type 0
+GoodRuns [] = Unit {0}
+GoodRuns (run ∷ runs) = GoodRun run × GoodRuns runs
+
+pub record GoodVector (f : Fields) (more sent : ℕ) : Type 0 where
+  pub fields : LawfulFields f
+  pub sparse : f .cs ≡ true
+  pub within : suc more ≤ vectorBytes f
+  pub counted : sent ≤ (vectorBytes f - suc more) * 8
+
+pub record GoodWord (more sign top : ℕ) (run : Run) (runs : List Run) : Type 0 where
+  pub short : suc more ≤ 8
+  pub signed : (sign ≡ 0) ⊎ ((sign ≡ 128) × (top < 128 * 256 ^ more))
+  pub room : top < 256 ^ suc more
+  pub first : GoodRun run
+  pub others : GoodRuns runs
+
+-- the states that a machine can be in
+abbrev pub Good : State → Type 0
+Good size = Unit {0}
+Good (control1 n) = (1 ≤ n) × (n ≤ 64)
+Good (control2 f) = LawfulFirst f
+Good (vector f more sent) = GoodVector f more sent
+Good (word more sign top run runs) = GoodWord more sign top run runs
+
+-- the verdict on a string of bytes
+abbrev pub verdictOf : List ℕ → Verdict
+verdictOf bytes = run step least size bytes
+
+-- the verdict on all the bytes from a state that the machine has reached at a place, and behind a move
+abbrev pub verdictAt : State → List ℕ → ℕ → Verdict
+verdictAt s bytes place = reach step least s bytes place
+
+abbrev pub verdictBehind : Move State → List ℕ → ℕ → Verdict
+verdictBehind move bytes place = led step least move bytes place

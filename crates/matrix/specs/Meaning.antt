@@ -1,0 +1,59 @@
+-- What a matrix pack means, and the rules that a lawful meaning keeps.
+use Prim.Native.Nat.{ℕ, _+_, _-_, _*_, _/_, _≤_, _<_, min}
+use mathlib.Core.Path.{_≡_}
+use mathlib.Core.Bool.{true, false, cond}
+use mathlib.Core.List.{List, [], _∷_}
+use lib.ListN.{length, getD}
+use Rattle.word.specs.Rules.{Keeps, allowed, deviationRule, coefficientRule}
+use Rattle.word.specs.Scaled.{noughtOf}
+use Rattle.matrix.specs.declared.Fields.{Fields}
+
+-- M, how many pairs of variables there are
+abbrev pub pairs : ℕ → ℕ
+pairs n = n * (n - 1) / 2
+
+-- the size and control fields, N deviation words, M marks (1 sent, 0 not sent) and M coefficient words; pairs in the upper triangle's order, by rows
+pub record Matrix : Type 0 where
+  pub fields : Fields
+  pub deviations : List ℕ
+  pub marks : List ℕ
+  pub coefficients : List ℕ
+
+-- how many coefficients are sent
+unfoldable pub sum : List ℕ → ℕ
+sum [] = 0
+sum (x ∷ xs) = x + sum xs
+
+-- the nought of a format and length: 2^(8L − 2) mapped, 0 IEEE, 0 in 0 bytes
+abbrev pub nought : Fields → ℕ
+nought f = cond (f .cf) (noughtOf (f .clen)) 0
+
+-- the rules of the size and of control byte 1
+pub record LawfulFirst (f : Fields) : Type 0 where
+  pub size-least : 1 ≤ f .n
+  pub size-most : f .n ≤ 64
+  pub coefficient-length : allowed (f .cf) (f .clen) ≡ true
+  pub sparse : f .cs ≡ true → 0 < f .clen
+  pub size-one : f .n ≡ 1 → f .clen ≡ 0
+
+-- and of control byte 2
+pub record LawfulFields (f : Fields) : Type 0 where
+  pub first : LawfulFirst f
+  pub deviation-length : allowed (f .sf) (f .slen) ≡ true
+  pub some-length : 0 < f .slen + f .clen
+
+-- the rules of the values, in the format and length of the fields
+pub record LawfulValues (m : Matrix) : Type 0 where
+  pub deviation-count : length (m .deviations) ≡ m .fields .n
+  pub mark-count : length (m .marks) ≡ pairs (m .fields .n)
+  pub coefficient-count : length (m .coefficients) ≡ pairs (m .fields .n)
+  pub deviation-rule : (i : ℕ) → i < m .fields .n → Keeps (deviationRule (m .fields .sf) (m .fields .slen)) (getD (m .deviations) i 0)
+  pub mark-rule : (i : ℕ) → getD (m .marks) i 0 ≤ 1
+  pub all-sent : m .fields .cs ≡ false → (i : ℕ) → i < pairs (m .fields .n) → getD (m .marks) i 0 ≡ min 1 (m .fields .clen)
+  pub coefficient-rule : (i : ℕ) → getD (m .marks) i 0 ≡ 1 → Keeps (coefficientRule (m .fields .cf) (m .fields .clen)) (getD (m .coefficients) i 0)
+  pub not-sent : (i : ℕ) → i < pairs (m .fields .n) → getD (m .marks) i 0 ≡ 0 → getD (m .coefficients) i 0 ≡ nought (m .fields)
+  pub some-value : 0 < m .fields .slen + sum (m .marks)
+
+pub record Lawful (m : Matrix) : Type 0 where
+  pub fields : LawfulFields (m .fields)
+  pub values : LawfulValues m

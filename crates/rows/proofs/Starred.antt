@@ -1,0 +1,99 @@
+-- The starred rows of document 01, and a row on each side of every constant, proved as one statement against the definitions. Assumes nothing.
+use Prim.Native.Nat.{ℕ, zero, suc, _<_}
+use mathlib.Core.Path.{_≡_, refl, ap, subst}
+use mathlib.Core.Bool.{Bool, true, _&&_, and-eq-true-iff}
+use mathlib.Core.List.{List, [], _∷_, map}
+use borrow.Author.Tests.{ltb-true}
+use lib.Dec.{ltb}
+use lib.ListN.{getD, drop}
+use native.Mathlib.Omega.{arith}
+use Rattle.verdict.specs.declared.Reason.{Reason}
+use Rattle.verdict.specs.declared.Reason.the-variants.{TooLarge, ValueLength, Empty, VectorEnd, ValueRange}
+use Rattle.verdict.specs.declared.Verdict.{Verdict}
+use Rattle.verdict.specs.declared.Verdict.the-variants.{Complete, Unfinished, Refused}
+use Rattle.verdict.specs.Machine.{run}
+use Rattle.verdict.specs.Rows.{judged}
+use Rattle.verdict.specs.Says.{Bytes, Says}
+use Rattle.word.specs.Digits.{digits}
+use Rattle.matrix.specs.Meaning.{sum}
+use Rattle.matrix.specs.Pack.{MatrixPack}
+use Rattle.matrix.specs.Table.{Why}
+use Rattle.matrix.specs.Machine.{enter, runBytes, verdictOf}
+use Rattle.matrix.proofs.Verdicts.{matrix-said}
+
+-- bytes, and what is to be said of them
+pub record Row : Type 0 where
+  pub bytes : List ℕ
+  pub said : Verdict
+
+abbrev row : List ℕ → Verdict → Row
+row bytes said = record { bytes = bytes; said = said }
+
+abbrev refused : Reason → ℕ → Verdict
+refused reason place = Refused (record { reason = reason; place = place })
+
+unfoldable pub rows : List Row
+rows =
+    row [] (Unfinished 4)
+    ∷ row (0x01 ∷ []) (Unfinished 3)
+    ∷ row (0x02 ∷ []) (Unfinished 3)
+    ∷ row (0x03 ∷ []) (Unfinished 4)
+    ∷ row (0x40 ∷ []) (Unfinished 66)
+    ∷ row (0x41 ∷ []) (refused TooLarge 0)
+    ∷ row (0x01 ∷ 0x80 ∷ 0x11 ∷ 0x05 ∷ []) (Complete 4)
+    ∷ row (0x02 ∷ 0x80 ∷ 0x00 ∷ []) (refused Empty 2)
+    ∷ row (0x03 ∷ 0xB1 ∷ 0x00 ∷ 0x00 ∷ []) (refused Empty 3)
+    ∷ row (0x03 ∷ 0xB1 ∷ 0x00 ∷ 0xA1 ∷ []) (refused VectorEnd 3)
+    ∷ row (0x03 ∷ 0xB1 ∷ 0x00 ∷ []) (Unfinished 2)
+    ∷ row (0x03 ∷ 0xB1 ∷ 0x11 ∷ []) (Unfinished 4)
+    ∷ row (0x02 ∷ 0x92 ∷ 0x00 ∷ 0x80 ∷ []) (Unfinished 1)
+    ∷ row (0x02 ∷ 0x92 ∷ 0x00 ∷ 0x80 ∷ 0x01 ∷ []) (refused ValueRange 4)
+    ∷ row (0x02 ∷ 0x92 ∷ 0x00 ∷ 0x80 ∷ 0x00 ∷ []) (Complete 5)
+    ∷ row (0x01 ∷ 0x80 ∷ 0x18 ∷ 0x80 ∷ 0 ∷ 0 ∷ 0 ∷ 0 ∷ 0 ∷ 0 ∷ 0 ∷ []) (Complete 11)
+    ∷ row (0x01 ∷ 0x80 ∷ 0x18 ∷ 0x80 ∷ 0 ∷ 0 ∷ 0 ∷ 0 ∷ 0 ∷ 0 ∷ 1 ∷ []) (refused ValueRange 10)
+    ∷ row (0x01 ∷ 0x80 ∷ 0x19 ∷ []) (refused ValueLength 2)
+    ∷ row (0x01 ∷ 0x80 ∷ 0x02 ∷ 0x7B ∷ 0xFF ∷ []) (Complete 5)
+    ∷ row (0x01 ∷ 0x80 ∷ 0x02 ∷ 0x7C ∷ []) (refused ValueRange 3)
+    ∷ row (0x01 ∷ 0x80 ∷ 0x04 ∷ 0x7F ∷ 0x7F ∷ 0xFF ∷ 0xFF ∷ []) (Complete 7)
+    ∷ row (0x01 ∷ 0x80 ∷ 0x04 ∷ 0x7F ∷ 0x80 ∷ []) (refused ValueRange 4)
+    ∷ row (0x01 ∷ 0x80 ∷ 0x08 ∷ 0x7F ∷ 0xEF ∷ 0xFF ∷ 0xFF ∷ 0xFF ∷ 0xFF ∷ 0xFF ∷ 0xFF ∷ []) (Complete 11)
+    ∷ row (0x01 ∷ 0x80 ∷ 0x08 ∷ 0x7F ∷ 0xF0 ∷ []) (refused ValueRange 4)
+    ∷ row (0x02 ∷ 0x82 ∷ 0x00 ∷ 0x3C ∷ 0x00 ∷ []) (Complete 5)
+    ∷ row (0x02 ∷ 0x82 ∷ 0x00 ∷ 0x3C ∷ 0x01 ∷ []) (refused ValueRange 4)
+    ∷ row (0x02 ∷ 0x82 ∷ 0x00 ∷ 0xBC ∷ 0x00 ∷ []) (Complete 5)
+    ∷ row (0x02 ∷ 0x84 ∷ 0x00 ∷ 0x3F ∷ 0x80 ∷ 0x00 ∷ 0x00 ∷ []) (Complete 7)
+    ∷ row (0x02 ∷ 0x84 ∷ 0x00 ∷ 0x3F ∷ 0x80 ∷ 0x00 ∷ 0x01 ∷ []) (refused ValueRange 6)
+    ∷ row (0x02 ∷ 0x88 ∷ 0x00 ∷ 0x3F ∷ 0xF0 ∷ 0 ∷ 0 ∷ 0 ∷ 0 ∷ 0 ∷ 0 ∷ []) (Complete 11)
+    ∷ row (0x02 ∷ 0x88 ∷ 0x00 ∷ 0x3F ∷ 0xF0 ∷ 0 ∷ 0 ∷ 0 ∷ 0 ∷ 0 ∷ 1 ∷ []) (refused ValueRange 10)
+    ∷ row (0x03 ∷ 0xB2 ∷ 0x04 ∷ 0xA0 ∷ 0x3F ∷ 0x80 ∷ 0 ∷ 0 ∷ 0x40 ∷ 0 ∷ 0 ∷ 0 ∷ 0x40 ∷ 0x80 ∷ 0 ∷ 0 ∷ 0x60 ∷ 0 ∷ 0x20 ∷ 0 ∷ []) (Complete 20)
+    ∷ []
+
+-- of each row's bytes the verdict is said
+abbrev pub Said : List Row → Type 0
+Said [] = Unit {0}
+Said (r ∷ rs) = Says MatrixPack Why (r .bytes) (r .said) × Said rs
+
+-- whether each of some numbers is a byte
+abbrev bytely : List ℕ → Bool
+bytely [] = true
+bytely (b ∷ bs) = ltb b 256 && bytely bs
+
+bytely-bytes : (bs : List ℕ) → bytely bs ≡ true → Bytes bs
+bytely-bytes [] e i = omega arith
+bytely-bytes (b ∷ bs) e i = at i (and-eq-true-iff (ltb b 256) (bytely bs) .0 e) (λ h k. bytely-bytes bs h k)
+  where
+    at : (i : ℕ) → (ltb b 256 ≡ true) × (bytely bs ≡ true) → (bytely bs ≡ true → (k : ℕ) → getD bs k 0 < 256) → getD (b ∷ bs) i 0 < 256
+    at zero h ih = ltb-true b 256 (h .0)
+    at (suc i) h ih = ih (h .1) i
+
+-- where the run says what the rows say, so do the definitions
+run-said : (rs : List Row) → map (λ (r : Row). bytely (r .bytes)) rs ≡ map (λ (r : Row). true) rs → map (λ (r : Row). verdictOf (r .bytes)) rs ≡ map (λ (r : Row). r .said) rs → Said rs
+run-said [] b e = tt
+run-said (r ∷ rs) b e = (
+  subst (Says MatrixPack Why (r .bytes)) (ap (λ (l : List Verdict). getD l 0 (r .said)) e) (matrix-said (r .bytes) (bytely-bytes (r .bytes) (ap (λ (l : List Bool). getD l 0 true) b))),
+  run-said rs (ap (drop 1) b) (ap (drop 1) e),
+)
+
+pub rows-said : Said rows
+unfolding rows run judged enter runBytes sum digits
+rows-said = run-said rows refl refl
