@@ -1,0 +1,4 @@
+pub mod Keeping
+pub mod Accepting
+pub mod Reasons
+pub mod Verdicts

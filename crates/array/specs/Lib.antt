@@ -1,0 +1,4 @@
+pub mod Meaning
+pub mod Spelling
+pub mod Table
+pub mod Machine

@@ -1,0 +1,22 @@
+-- The bytes of an array pack, and what an array pack is.
+use Prim.Native.Nat.{ℕ}
+use mathlib.Core.Path.{_≡_}
+use mathlib.Core.List.{List, [], _∷_, _++_}
+use lib.ListN.{length}
+use Rattle.number.specs.Octets.{octets}
+use Rattle.array.specs.Meaning.{Array, Lawful}
+
+-- numbers in their shortest form, one after the other
+unfoldable pub numbers : List ℕ → List ℕ
+numbers [] = []
+numbers (value ∷ values) = octets value ++ numbers values
+
+-- NDim, the sizes, E, processing 1, the array
+abbrev pub bytesOf : Array → List ℕ
+bytesOf a = octets (length (a .sizes)) ++ (numbers (a .sizes) ++ (octets (a .element) ++ (octets 1 ++ a .body)))
+
+-- an array pack: the bytes of some lawful meaning
+pub record ArrayPack (w : List ℕ) : Type 0 where
+  pub meaning : Array
+  pub lawful : Lawful meaning
+  pub spelled : bytesOf meaning ≡ w
