@@ -1,7 +1,7 @@
 -- The machine of matrix packs accepts exactly the matrix packs. Assumes nothing.
 use Prim.Native.Nat.{ℕ, zero, suc, _+_, _-_, _*_, _%_, _^_, _≤_, _<_, min}
 use mathlib.Core.Path.{_≡_, refl, sym, ap, ap₂, _∙_, subst}
-use mathlib.Core.Bool.{true, false, false≢true}
+use mathlib.Core.Bool.{true, false, not, false≢true}
 use mathlib.Core.List.{List, [], _∷_, _++_, append-nil}
 use native.Mathlib.Omega.{arith}
 use lib.ListN.{length, getD, take, replicate, length-replicate, getD-replicate}
@@ -96,6 +96,14 @@ getD-same (suc n) k (suc i) h = getD-same n k i h
 -- the vector is as long as its bits ask for
 vector-room : (f : Fields) → LawfulFirst f → f .cs ≡ true → (suc (vectorBytes f - 1) ≡ vectorBytes f) × (pairs (f .n) ≤ suc (vectorBytes f - 1) * 8) × ((vectorBytes f - 1) * 8 ≤ pairs (f .n))
 vector-room f g e = rw e (omega (arith, pairs-some (f .n) (two-sizes f g (g .sparse e))))
+
+-- a vector whose last byte keeps rule 10 has no 1 behind the M bits
+pub vector-zeros : (f : Fields) → LawfulFirst f → f .cs ≡ true → (v : List ℕ) → length v ≡ suc (vectorBytes f - 1)
+    → not (eqb (getD v (vectorBytes f - 1) 0 % 2 ^ (vectorBytes f * 8 - pairs (f .n))) 0) ≡ false → (i : ℕ) → pairs (f .n) ≤ i → getD (bits v) i 0 ≡ 0
+vector-zeros f g e v count kept =
+    let room = vector-room f g e in
+    unused-none v (vectorBytes f - 1) (pairs (f .n)) count (room .1) (room .2)
+    (subst (λ (k : ℕ). getD v (vectorBytes f - 1) 0 % 2 ^ (k * 8 - pairs (f .n)) ≡ 0) (sym (room .0)) (eqb-true _ 0 (not-false _ kept)))
 
 -- the values of a lawful meaning lead to a pack's end
 module _ (m : Matrix) (g : Lawful m) where
@@ -240,9 +248,7 @@ module _ (f : Fields) (g : LawfulFields f) where
       let room = vector-room f (g .first) e in
       let v = t .front in
       let marks = take (pairs (f .n)) (bits v) in
-      let zeros : (i : ℕ) → pairs (f .n) ≤ i → getD (bits v) i 0 ≡ 0 =
-      unused-none v (vectorBytes f - 1) (pairs (f .n)) (t .count) (room .1) (room .2)
-      (subst (λ (k : ℕ). getD v (vectorBytes f - 1) 0 % 2 ^ (k * 8 - pairs (f .n)) ≡ 0) (sym (room .0)) (eqb-true _ 0 (not-false _ (t .kept .0)))) in
+      let zeros = vector-zeros f (g .first) e v (t .count) (t .kept .0) in
       let s : sum marks ≡ sum (bits v) = sum-first (pairs (f .n)) (bits v) zeros in
       let back : packed (vectorBytes f) marks ≡ v = ap (λ (k : ℕ). packed k marks) (sym (room .0) ∙ sym (t .count)) ∙ packed-back (pairs (f .n)) v (t .bytes) zeros in
       subst Means (ap (λ (l : List ℕ). l ++ t .behind) back ∙ sym (t .parts))

@@ -23,7 +23,7 @@ use Rattle.word.proofs.Certain.{sign-whole}
 use Rattle.word.proofs.Digits.{Below, bytes-bits}
 use Rattle.matrix.specs.Machine.{State, word, Run, enter, enterWord, inWord, restOf, runBytes, step, least, verdictAt, verdictBehind}
 use Rattle.matrix.specs.declared.words.Passed.the-variants.{Unfinished as PassedUnfinished, Refused as PassedRefused}
-use Rattle.matrix.specs.Walk.{maskOf, overAt, wordOf, runOf, Fast, Judges, Checks, PassedTo, PassedFrom}
+use Rattle.matrix.specs.Walk.{maskOf, overAt, wordOf, runOf, LookedAt, Judges, Checks, PassedTo, PassedFrom}
 use Rattle.matrix.proofs.Begun.{cleared-none, run-empty}
 use Rattle.matrix.proofs.Keeping.{first-sign}
 
@@ -102,7 +102,7 @@ pub record Comes (bytes : List ℕ) (place : ℕ) (rule : Rule) (at left top : �
 abbrev pub Tight : List ℕ → ℕ → Rule → ℕ → Type 0
 Tight bytes place rule at = Comes bytes place rule at (place + rule .length - at) (rule .greatest % 256 ^ (place + rule .length - at))
 
-module _ (bytes : List ℕ) (place until : ℕ) (rule : Rule) (fast : Fast bytes place until rule) where
+module _ (bytes : List ℕ) (place until : ℕ) (rule : Rule) (fast : LookedAt bytes place until rule) where
   judges-over : (at : ℕ) → at < until → ((run : Run) (runs : List Run) → verdictAt (wordOf rule run runs) bytes place ≡ overAt at) → Judges bytes place until rule at
   judges-over at h f = record { within = omega arith; over = λ l. f; whole = λ l. absurd (omega arith); cut = λ l. absurd (omega arith) }
 

@@ -1,27 +1,28 @@
 -- The machine of matrix packs gives the reasons of document 01's table. Assumes nothing.
 use Prim.Native.Nat.{ℕ, zero, suc, _+_, _-_, _/_, _^_, _<_, _≤_}
-use mathlib.Core.Path.{_≡_, sym, ap, _∙_, subst}
-use mathlib.Core.Bool.{Bool, true, false}
+use mathlib.Core.Path.{_≡_, refl, sym, ap, _∙_, subst}
+use mathlib.Core.Bool.{Bool, true, false, _&&_, cond}
 use mathlib.Core.Logic.{_⊎_, inl, inr, ⊎-elim}
 use mathlib.Core.List.{List, [], _∷_}
 use native.Mathlib.Nat.{zero-add}
 use native.Mathlib.Omega.{arith}
 use borrow.Author.Tests.{le-ltb, ne-eqb, eq-eqb}
-use lib.Dec.{ltb}
-use lib.ListN.{length, getD}
-use Rattle.verdict.specs.Rows.{Blamed}
+use lib.Dec.{eqb, ltb}
+use lib.ListN.{length, take, getD}
+use Rattle.verdict.specs.Rows.{Row, Blamed}
 use Rattle.verdict.proofs.Judging.{Leads, judged-leads, one-blamed, Kept}
 use Rattle.verdict.specs.declared.Reason.{Reason}
-use Rattle.verdict.specs.declared.Reason.the-variants.{ValueRange}
+use Rattle.verdict.specs.declared.Reason.the-variants.{Empty, ValueRange}
 use Rattle.verdict.specs.Says.{OneReason}
 use Rattle.verdict.specs.Machine.{Move, on, done, Blames}
 use Rattle.word.specs.Rules.{cleared}
 use Rattle.word.specs.Digits.{digits}
 use Rattle.matrix.specs.declared.Fields.{Fields}
-use Rattle.matrix.specs.Meaning.{sum, LawfulFields}
+use Rattle.matrix.specs.Meaning.{pairs, sum, LawfulFirst, LawfulFields}
 use Rattle.matrix.specs.Spelling.{bits, first, second, vectorBytes}
 use Rattle.matrix.specs.Table.{sizeRows, control1Rows, control2Rows, vectorRows, wordRows, valueRows, rowsOf, Why}
-use Rattle.matrix.proofs.Accepting.{sum-more, sum-last}
+use Rattle.matrix.proofs.Accepting.{sum-more, sum-last, vector-zeros}
+use Rattle.matrix.proofs.BitVector.{sum-first}
 use Rattle.matrix.proofs.ControlBytes.{size-kept}
 use Rattle.matrix.proofs.Keeping.{first-kept, second-kept, values-by, vector-none, vector-some}
 use Rattle.matrix.specs.Machine.{State, size, control1, control2, vector, word, Run, enter, enterRun, enterWord, inWord, restOf, enterValues, wordsOf, allSent, step}
@@ -88,6 +89,21 @@ vector-blames f (suc more) sent (b ∷ w) r x =
     ⊎-elim (λ y. inl (omega arith, y .1)) (λ y. inr (ap suc (y .0), subst (λ (s : ℕ). Blamed (vectorRows f s (getD w more 0)) r) (sym (sum-more sent b w)) (y .1)))
     (vector-blames f more (sent + sum (digits 2 8 b)) w r x)
 
+-- rows that give the same reason where a first rule is kept, give it behind that rule
+behind-kept : (row : Row) (rows others : List Row) (r : Reason) → (row .broken ≡ false → Blamed rows r → Blamed others r) → Blamed (row ∷ rows) r → Blamed (row ∷ others) r
+unfolding Blamed
+behind-kept row rows others r = go (row .broken)
+  where
+    go : (t : Bool) → (t ≡ false → Blamed rows r → Blamed others r) → cond t (row .reason ≡ r) (Blamed rows r) → cond t (row .reason ≡ r) (Blamed others r)
+    go true f x = x
+    go false f x = f refl x
+
+-- the ones of all bits and those of the M bits give the same reason
+first-bits : (f : Fields) → LawfulFirst f → f .cs ≡ true → (w : List ℕ) (r : Reason) → length w ≡ suc (vectorBytes f - 1)
+    → Blamed (vectorRows f (sum (bits w)) (getD w (vectorBytes f - 1) 0)) r → Blamed (vectorRows f (sum (take (pairs (f .n)) (bits w))) (getD w (vectorBytes f - 1) 0)) r
+first-bits f g e w r l =
+    behind-kept _ _ _ r (λ kept. subst (λ (s : ℕ). Blamed (record { broken = eqb (f .slen) 0 && eqb s 0; reason = Empty } ∷ []) r) (sym (sum-first (pairs (f .n)) (bits w) (vector-zeros f g e w l kept))))
+
 values-blame : (f : Fields) → LawfulFields f → (w : List ℕ) (r : Reason) → Leads step w r (enterValues f (vectorBytes f)) → (0 < length w) × Blamed (valueRows f w) r
 unfolding Blamed
 values-blame f g w r =
@@ -97,7 +113,7 @@ values-blame f g w r =
     (λ e x. let v = vector-some f (g .first) e in
     ⊎-elim (λ y. (omega (arith, y .0), rw (le-ltb (length w) (vectorBytes f) (omega (arith, y .0)), ne-eqb (length w) (vectorBytes f) (λ z. omega (arith, y .0))) (y .1)))
     (λ y. let l : length w ≡ vectorBytes f = y .0 ∙ sym v in
-    (omega (arith, y .0), rw (le-ltb (length w) (vectorBytes f) (omega arith), eq-eqb (length w) (vectorBytes f) l) (rw zero-add at (y .1))))
+    (omega (arith, y .0), rw (le-ltb (length w) (vectorBytes f) (omega arith), eq-eqb (length w) (vectorBytes f) l) (first-bits f (g .first) e w r (y .0) (rw zero-add at (y .1)))))
     (vector-blames f (vectorBytes f - 1) 0 w r x))
 
 -- ---- the table

@@ -19,7 +19,7 @@ pub record Matrix : Type 0 where
   pub marks : List ℕ
   pub coefficients : List ℕ
 
--- how many coefficients are sent
+-- a sum; of marks, how many coefficients are sent
 unfoldable pub sum : List ℕ → ℕ
 sum [] = 0
 sum (x ∷ xs) = x + sum xs

@@ -2,7 +2,7 @@
 use Prim.Native.Nat.{ℕ, _-_, _*_, _/_, _%_, _^_}
 use mathlib.Core.Bool.{Bool, true, not, _&&_, cond}
 use mathlib.Core.List.{List, [], _∷_}
-use lib.ListN.{length, getD}
+use lib.ListN.{length, take, getD}
 use lib.Dec.{eqb, ltb}
 use Rattle.verdict.specs.declared.Reason.{Reason}
 use Rattle.verdict.specs.declared.Reason.the-variants.{Zero, TooLarge, PaddedNumber, Mode, Reserved, ValueLength, Sparse, SizeOne, Empty, VectorEnd, ValueRange}
@@ -39,7 +39,7 @@ control2Rows f b =
     ∷ record { broken = eqb (f .slen) 0 && eqb (f .clen) 0; reason = Empty }
     ∷ []
 
--- the last vector byte: 10, 9. `sent` is how many ones the whole vector has
+-- the last vector byte: 10, 9. `sent` is how many of the M bits are 1
 abbrev pub vectorRows : Fields → ℕ → ℕ → List Row
 vectorRows f sent b =
     record { broken = not (eqb (b % 2 ^ (vectorBytes f * 8 - pairs (f .n))) 0); reason = VectorEnd }
@@ -54,7 +54,7 @@ wordRows broken = record { broken = broken; reason = ValueRange } ∷ []
 abbrev pub valueRows : Fields → List ℕ → List Row
 valueRows f values =
     cond (ltb (length values) (vectorBytes f)) []
-    (cond (eqb (length values) (vectorBytes f)) (vectorRows f (sum (bits values)) (getD values (vectorBytes f - 1) 0)) (wordRows true))
+    (cond (eqb (length values) (vectorBytes f)) (vectorRows f (sum (take (pairs (f .n)) (bits values))) (getD values (vectorBytes f - 1) 0)) (wordRows true))
 
 -- the rules for the last of some bytes, by the field that it falls in
 abbrev pub rowsOf : List ℕ → List Row

@@ -69,7 +69,7 @@ abbrev pub wordOf : Rule → Run → List Run → State
 wordOf rule run runs = word (rule .length - 1) (rule .sign / 256 ^ (rule .length - 1)) (rule .greatest) run runs
 
 -- a word of a sound rule begins at a place, and is looked at up to another
-pub record Fast (bytes : List ℕ) (place until : ℕ) (rule : Rule) : Type 0 where
+pub record LookedAt (bytes : List ℕ) (place until : ℕ) (rule : Rule) : Type 0 where
   pub sound : Sound rule
   pub some : 1 ≤ rule .length
   pub before : place < until

@@ -3,7 +3,7 @@ ghost use mathlib.Core.Path.{_≡_};
 ghost use Prim.Native.Nat.{_+_, _-_, _*_, _/_, _%_, _^_, _≤_, _<_};
 ghost use lib.ListN.{length as count, getD};
 ghost use Rattle.word.specs.Rules.{Sound, cleared};
-ghost use Rattle.matrix.specs.Walk.{maskOf, Fast, Judges, Checks, PassedFrom};
+ghost use Rattle.matrix.specs.Walk.{maskOf, LookedAt, Judges, Checks, PassedFrom};
 use crate::control::lesser;
 use crate::header::byte;
 use verdict::Reason;
@@ -34,7 +34,7 @@ fn limit_at(greatest: u64, more: usize) -> usize
 
 // Behind a first byte that is its limit's: the byte that breaks the rule, or `until`.
 fn tight_word(bytes: &[u8], at: usize, until: usize, rule: Rule) -> usize
-    requires { ⌜ Fast (now bytes) at until rule × (cleared (rule .sign / 256 ^ (rule .length - 1)) (getD (now bytes) at 0) ≡ rule .greatest / 256 ^ (rule .length - 1)) ⌝ }
+    requires { ⌜ LookedAt (now bytes) at until rule × (cleared (rule .sign / 256 ^ (rule .length - 1)) (getD (now bytes) at 0) ≡ rule .greatest / 256 ^ (rule .length - 1)) ⌝ }
     ensures { λ r. ⌜ Judges (now (bytes .entry)) at until rule r ⌝ }
 {
     let end = at + rule.length;
@@ -56,7 +56,7 @@ fn tight_word(bytes: &[u8], at: usize, until: usize, rule: Rule) -> usize
 
 // The byte of the word at a place that breaks its rule, or `until` where none before that does.
 fn judge_word(bytes: &[u8], at: usize, until: usize, rule: Rule, mask: usize, first: usize) -> usize
-    requires { ⌜ Fast (now bytes) at until rule × (mask ≡ maskOf rule) × (first ≡ rule .greatest / 256 ^ (rule .length - 1)) ⌝ }
+    requires { ⌜ LookedAt (now bytes) at until rule × (mask ≡ maskOf rule) × (first ≡ rule .greatest / 256 ^ (rule .length - 1)) ⌝ }
     ensures { λ r. ⌜ Judges (now (bytes .entry)) at until rule r ⌝ }
 {
     let b = byte(bytes, at) & mask;
