@@ -13,7 +13,7 @@ refused-requires : tie.Need-refused-requires
 refused-requires c κs = search needs
 
 returns : tie.Need-returns
-returns c = c .refused .ensures ∙ simp (lt-leb _ _ (c .before .if1 .taken))
+returns c = c .refused .ensures ∙ simp (lt-leb (c .before .before .args .length) 8 (omega arith))
 
 returns-2 : tie.Need-returns-2
 returns-2 c = rw (c .if2 .taken)
@@ -30,7 +30,7 @@ shl-t7 c = search needs
 returns-3 : tie.Need-returns-3
 returns-3 c =
     let n = c .before .before .args .length in
-    simp (le-leb n 8 (c .before .if1 .left))
+    simp (le-leb n 8 (omega arith))
     (ap (λ (greatest : ℕ). By (record { length = n; sign = 0; greatest = greatest })) (one-shifted n 1 (omega arith) (omega arith) (omega arith)))
 
 pub mapped-rule-spec : {M : Type 1} → statement M

@@ -1,13 +1,14 @@
 -- `rules::Rule::admits` meets its contract: the sign is cleared where it is set. Assumes nothing.
+use native.Mathlib.Omega.{arith}
 use borrow.Author.Tests.{le-leb, lt-leb}
 use Rattle.word.proofs.rules.Rule.admits.Statement.{statement}
 use Rattle.word.proofs.rules.Rule.admits.Tie as tie
 
 returns : tie.Need-returns
-returns c = simp (le-leb _ _ (c .before .before .if1 .taken))
+returns c = let a = c .before .before .before .before .args in simp (le-leb (a .self .sign) (a .word) (omega arith))
 
 returns-2 : tie.Need-returns-2
-returns-2 c = simp (lt-leb _ _ (c .before .if1 .left))
+returns-2 c = let a = c .before .before .before .args in simp (lt-leb (a .self .sign) (a .word) (omega arith))
 
 pub admits-spec : {M : Type 1} → statement M
 admits-spec = tie.close (tie.spec returns returns-2)
