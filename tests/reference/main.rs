@@ -10,6 +10,7 @@
 //     reference tally              how often each word and reason occurs in a report
 //     reference check SEED COUNT   compares the verdicts with a search among all endings
 
+mod address;
 mod array;
 mod check;
 mod corpus;

@@ -5,17 +5,21 @@ use crate::corpus::greatest_word;
 use crate::frame::{bytes_of_hex, hex_of_bytes};
 use crate::matrix::{allowed_lengths, coefficient_count, vector_length, Role};
 use crate::verdict::Verdict;
-use crate::{array, matrix};
+use crate::{address, array, matrix};
 use std::collections::HashSet;
 use std::io::{self, BufRead, Write};
 
-/// Prints each row with its verdict; for a lower-case kind the verdicts on all shorter beginnings
-/// come first.
+/// Prints each row with what is said of it. "S" and "M" are followed by the bytes of a matrix and of
+/// an array pack; for a lower-case kind the verdicts on all shorter beginnings come first.
 pub fn run(input: &mut dyn BufRead, output: &mut dyn Write) -> io::Result<()> {
     for line in input.lines() {
         let line = line?;
         let wrong = || io::Error::new(io::ErrorKind::InvalidData, format!("not a row: {}", line));
         let kind = line.chars().next().ok_or_else(wrong)?;
+        if kind == 'A' {
+            writeln!(output, "{} {}", line, addressed(&line).ok_or_else(wrong)?)?;
+            continue;
+        }
         let verdict: fn(&[u8]) -> Verdict = match kind {
             'S' | 's' => matrix::verdict,
             'M' | 'm' => array::verdict,
@@ -36,6 +40,35 @@ pub fn run(input: &mut dyn BufRead, output: &mut dyn Write) -> io::Result<()> {
         writeln!(output, "{} {}", line, verdict(&bytes))?;
     }
     Ok(())
+}
+
+/// What reading and addressing say of "A HEX COUNT INDEX ..": the bytes, so many bytes of 0 behind
+/// them, and the indices.
+fn addressed(line: &str) -> Option<String> {
+    let mut parts = line.strip_prefix("A ")?.split(' ');
+    let mut bytes = bytes_of_hex(parts.next()?.as_bytes())?;
+    let count: usize = parts.next()?.parse().ok()?;
+    bytes.resize(bytes.len() + count, 0);
+    let indices: Vec<usize> = parts.map(|text| text.parse().ok()).collect::<Option<_>>()?;
+    let numbers = match address::read(&bytes) {
+        Ok(numbers) => numbers,
+        Err(verdict) => return Some(verdict.to_string()),
+    };
+    let mut sizes = numbers.sizes.clone();
+    sizes.resize(8, 0);
+    let sizes: String = sizes.iter().map(|size| format!(" {}", size)).collect();
+    let answer = match address::offset(&bytes, &indices) {
+        Ok(offset) => format!("offset {}", offset),
+        Err(verdict) => verdict.to_string(),
+    };
+    Some(format!(
+        "array {}{} {} {} {}",
+        numbers.sizes.len(),
+        sizes,
+        numbers.element,
+        numbers.start,
+        answer
+    ))
 }
 
 /// A list of rows, in which none stands twice.
@@ -738,5 +771,9 @@ pub fn make(output: &mut dyn Write) -> io::Result<()> {
     array_sizes(&mut rows);
     array_elements(&mut rows);
     array_bodies(&mut rows);
-    rows.print(output)
+    rows.print(output)?;
+    for row in address::make() {
+        writeln!(output, "{}", row)?;
+    }
+    Ok(())
 }

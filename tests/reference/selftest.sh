@@ -163,6 +163,22 @@ M 0264640001 complete 5
 END
 check_rows "$work/hand" "a verdict worked out by hand differs"
 
+# Offsets worked out by hand from Appendix A of ST 1303: one, two, three and eight dimensions.
+cat > "$work/expected" <<'END'
+A 01050301 15 4 array 1 5 0 0 0 0 0 0 0 3 4 offset 12
+A 0202030401 24 1 2 array 2 2 3 0 0 0 0 0 0 4 5 offset 20
+A 0264640301 30000 10 0 array 2 100 100 0 0 0 0 0 0 3 5 offset 3000
+A 030304050401 240 1 2 3 array 3 3 4 5 0 0 0 0 0 4 6 offset 132
+A 0801020304050601020201 2880 0 1 2 3 4 5 0 1 array 8 1 2 3 4 5 6 1 2 2 11 offset 2878
+A 0202030401 24 2 0 array 2 2 3 0 0 0 0 0 0 4 5 refused 15 at 0
+A 0202030401 24 1 array 2 2 3 0 0 0 0 0 0 4 5 refused 15 at 0
+A 03070605000100 0 6 5 4 array 3 7 6 5 0 0 0 0 0 0 6 offset 0
+A 0202030401 23 2 0 unfinished 1
+END
+sed 's/ \(array\|unfinished\) .*//' "$work/expected" > "$work/rows"
+"$reference" rows < "$work/rows" > "$work/got"
+diff "$work/expected" "$work/got" || fail "an offset worked out by hand differs"
+
 # Lines worked out by hand: after the key, the length and its forms; the characters of a line.
 key=060E2B34020501010E0103032100000
 zeros() { head -c "$1" /dev/zero | tr '\0' 0; }
@@ -218,9 +234,9 @@ cat > "$work/expected" <<'END'
 END
 diff "$work/expected" "$work/got" || fail "a line worked out by hand differs"
 
-# The made rows: none twice, all of them lawful rows, about 200 kB at the most.
+# The made rows: none twice, all of them lawful rows, at most what the program that runs them takes at once.
 test -z "$(sort "$work/made" | uniq -d)" || fail "make-rows repeats a row"
-test "$(wc -c < "$work/made")" -le 210000 || fail "make-rows prints too much"
+test "$(wc -c < "$work/made")" -le 262144 || fail "make-rows prints too much"
 "$reference" rows < "$work/made" > /dev/null
 
 # The corpus: equal arguments give equal bytes, and every word and reason is reached.

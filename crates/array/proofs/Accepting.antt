@@ -1,47 +1,41 @@
 -- The machine of array packs accepts exactly the array packs. Assumes nothing.
 use Prim.Native.Nat.{ℕ, zero, suc, _+_, _-_, _*_, _/_, _%_, _≤_, _<_}
 use mathlib.Core.Path.{_≡_, refl, sym, ap, ap₂, _∙_, subst}
-use mathlib.Core.Bool.{Bool, true, false, false≢true}
+use mathlib.Core.Bool.{true, false≢true}
 use mathlib.Core.List.{List, [], _∷_, _++_, append-assoc}
 use native.Mathlib.Nat.{mul-assoc, mul-comm, mul-one, le-div-iff-mul-le, mul-pos, le-mul-of-pos-right}
 use native.Mathlib.Omega.{arith}
-use borrow.Author.Tests.{lt-ltb, le-ltb, ltb-true, ltb-false, eqb-false}
-use lib.Dec.{eqb, ltb}
 use lib.ListN.{length, getD}
 use Rattle.verdict.specs.Machine.{Accepts}
-use Rattle.verdict.specs.Rows.{judged}
 use Rattle.verdict.specs.Says.{Bytes}
-use Rattle.verdict.proofs.Cases.{either, and-right}
-use Rattle.verdict.proofs.Judging.{Kept, Reaches, kept-reaches, reaches-kept}
-use Rattle.number.specs.Octets.{high, octets}
+use Rattle.verdict.proofs.Judging.{Reaches}
+use Rattle.number.specs.declared.Effect.{Effect}
+use Rattle.number.specs.Octets.{high, octets, numbers}
+use Rattle.number.proofs.Octet.{Does, ends, goes, fails, does, effect-ends, effect-goes}
 use Rattle.number.proofs.Octets.{Begun, none as nothing, more as further, begun, high-none, high-more, octets-more}
 use Rattle.array.specs.Meaning.{product, most}
-use Rattle.array.specs.Spelling.{numbers, ArrayPack}
-use Rattle.array.specs.Table.{Field, dims, size, element, processing, limit, positive, with, number, body, enter, behind, behindOctet, numberRows}
-use Rattle.array.specs.Machine.{step}
-use Rattle.array.proofs.Keeping.{octet-kept, limit-product, ends-kept, more-kept, ends-smallest}
+use Rattle.array.specs.Spelling.{ArrayPack}
+use Rattle.array.specs.Table.{Field, dims, size, element, processing, limit, positive, number, body, enter, behind, behindEffect, move}
+use Rattle.array.proofs.Keeping.{limit-product}
 
 -- ---- numbers
 
 -- a last octet leads behind its number
-ends-accepted : (field : Field) (v o : ℕ) (t : List ℕ) → o < 128 → (positive field ≡ true → 0 < v * 128 + o) → v * 128 + o ≤ limit field → Reaches step (behind field (v * 128 + o)) t → Accepts step (number field v) (o ∷ t)
+ends-accepted : (field : Field) (v o : ℕ) (t : List ℕ) → o < 128 → (positive field ≡ true → 0 < v * 128 + o) → v * 128 + o ≤ limit field → Reaches move (behind field (v * 128 + o)) t → Accepts move (number field v) (o ∷ t)
 unfolding Accepts
-ends-accepted field v o t h p l x =
-    (omega arith, kept-reaches step (numberRows field v o) (behindOctet field v o) t (ends-kept field v o h p l) (rw (lt-ltb o 128 h) x))
+ends-accepted field v o t h p l x = (omega arith, subst (λ (e : Effect). Reaches move (behindEffect field e) t) (sym (effect-ends o v (positive field) (limit field) h p l)) x)
 
 -- any other octet leads on with it
-more-accepted : (field : Field) (v d : ℕ) (t : List ℕ) → d < 128 → 0 < v * 128 + d → (v * 128 + d) * 128 ≤ limit field → Accepts step (number field (v * 128 + d)) t → Accepts step (number field v) ((128 + d) ∷ t)
+more-accepted : (field : Field) (v d : ℕ) (t : List ℕ) → d < 128 → 0 < v * 128 + d → (v * 128 + d) * 128 ≤ limit field → Accepts move (number field (v * 128 + d)) t → Accepts move (number field v) ((128 + d) ∷ t)
 unfolding Accepts
-more-accepted field v d t h p l x =
-    let e : 128 + d - 128 ≡ d = omega arith in
-    (omega arith, kept-reaches step (numberRows field v (128 + d)) (behindOctet field v (128 + d)) t (more-kept field v d p l) (rw (le-ltb (128 + d) 128 (omega arith), e) x))
+more-accepted field v d t h p l x = (omega arith, subst (λ (e : Effect). Reaches move (behindEffect field e) t) (sym (effect-goes d v (positive field) (limit field) p l)) x)
 
-begun-accepted : (field : Field) {v : ℕ} → Begun v → (t : List ℕ) → v * 128 ≤ limit field → Accepts step (number field v) t → Accepts step (number field 0) (high v ++ t)
+begun-accepted : (field : Field) {v : ℕ} → Begun v → (t : List ℕ) → v * 128 ≤ limit field → Accepts move (number field v) t → Accepts move (number field 0) (high v ++ t)
 begun-accepted field nothing t l a = rw high-none a
 begun-accepted field (further {v} d h p b) t l a =
     rw (high-more v d h p, append-assoc) (begun-accepted field b ((128 + d) ∷ t) (omega arith) (more-accepted field v d t h p l a))
 
-octets-accepted : (field : Field) (x : ℕ) (t : List ℕ) → (positive field ≡ true → 0 < x) → x ≤ limit field → Reaches step (behind field x) t → Accepts step (number field 0) (octets x ++ t)
+octets-accepted : (field : Field) (x : ℕ) (t : List ℕ) → (positive field ≡ true → 0 < x) → x ≤ limit field → Reaches move (behind field x) t → Accepts move (number field 0) (octets x ++ t)
 octets-accepted field x t p l a =
     let q = x / 128 in
     let d = x % 128 in
@@ -56,46 +50,37 @@ record Taken (field : Field) (v : ℕ) (w : List ℕ) : Type 0 where
   parts : high v ++ w ≡ octets value ++ rest
   within : value ≤ limit field
   counts : positive field ≡ true → 0 < value
-  reached : Reaches step (behind field value) rest
+  reached : Reaches move (behind field value) rest
 
-number-taken : (field : Field) (w : List ℕ) (v : ℕ) → Accepts step (number field v) w → Taken field v w
+number-taken : (field : Field) (w : List ℕ) (v : ℕ) → Accepts move (number field v) w → Taken field v w
 unfolding Accepts
 number-taken field [] v a = absurd a
-number-taken field (o ∷ w) v a = go (ltb o 128) refl (λ u x. number-taken field w u x)
+number-taken field (o ∷ w) v a = go (does o v (positive field) (limit field)) (a .1) (λ u x. number-taken field w u x)
   where
-    kept : Kept (numberRows field v o) × Reaches step (behindOctet field v o) w
-    kept = reaches-kept step (numberRows field v o) (behindOctet field v o) w (a .1)
-
-    go : (t : Bool) → ltb o 128 ≡ t → ((u : ℕ) → Accepts step (number field u) w → Taken field u w) → Taken field v (o ∷ w)
-    go true e ih =
-        let h = ltb-true o 128 e in
-        let s = octet-kept field v o (kept .0) in
-        let n : with v o ≡ v * 128 + o = rw e in
+    go : {e : Effect} → Does o v (positive field) (limit field) e → Reaches move (behindEffect field e) w → ((u : ℕ) → Accepts move (number field u) w → Taken field u w) → Taken field v (o ∷ w)
+    go (ends l p h) x ih =
         record {
           value = v * 128 + o;
           rest = w;
-          parts = rw (octets-more v o h) (sym (append-assoc (high v) (o ∷ []) w));
-          within = rw (ends-smallest v o e, n) at (s .within);
-          counts = λ p. rw n at (s .counts p h);
-          reached = rw e at (kept .1);
+          parts = rw (octets-more v o l) (sym (append-assoc (high v) (o ∷ []) w));
+          within = h;
+          counts = p;
+          reached = x;
         }
-    go false e ih =
-        let h = ltb-false o 128 e in
-        let d = o - 128 in
-        let p : 0 < v * 128 + d = either (eqb v 0) (λ z. omega (arith, eqb-false o 0x80 (and-right (eqb v 0) (eqb o 0x80) (kept .0 .0) z))) (λ z. omega (arith, eqb-false v 0 z)) in
-        let x = ih (v * 128 + d) (rw e at (kept .1)) in
-        let b : 128 + d ≡ o = omega arith in
+    go (goes d e p h) x ih =
+        let y = ih (v * 128 + d) x in
         record {
-          value = x .value;
-          rest = x .rest;
-          parts = sym (ap (λ (l : List ℕ). l ++ w) (high-more v d (omega (arith, a .0)) p ∙ ap (λ (k : ℕ). high v ++ (k ∷ [])) b) ∙ append-assoc (high v) (o ∷ []) w) ∙ x .parts;
-          within = x .within;
-          counts = x .counts;
-          reached = x .reached;
+          value = y .value;
+          rest = y .rest;
+          parts = sym (ap (λ (l : List ℕ). l ++ w) (high-more v d (omega (arith, a .0)) p ∙ ap (λ (k : ℕ). high v ++ (k ∷ [])) (sym e)) ∙ append-assoc (high v) (o ∷ []) w) ∙ y .parts;
+          within = y .within;
+          counts = y .counts;
+          reached = y .reached;
         }
+    go fails x ih = absurd x
 
 -- from before a number's first octet
-number-begins : (field : Field) (w : List ℕ) → Accepts step (number field 0) w → Taken field 0 w
+number-begins : (field : Field) (w : List ℕ) → Accepts move (number field 0) w → Taken field 0 w
 number-begins field w a = number-taken field w 0 a
 
 first-parts : {field : Field} {w : List ℕ} (t : Taken field 0 w) → w ≡ octets (t .value) ++ t .rest
@@ -110,25 +95,25 @@ bytes-cons b w h k (suc i) = k i
 bytes-none : (w : List ℕ) → w ≡ [] → Bytes w
 bytes-none w e i = rw e (omega arith)
 
-body-accepted : (more : ℕ) (w : List ℕ) → length w ≡ suc more → Bytes w → Accepts step (body more) w
-unfolding Accepts judged
+body-accepted : (more : ℕ) (w : List ℕ) → length w ≡ suc more → Bytes w → Accepts move (body more) w
+unfolding Accepts
 body-accepted more [] l h = absurd (omega arith)
 body-accepted zero (b ∷ []) l h = (h 0, refl)
 body-accepted zero (b ∷ c ∷ w) l h = absurd (omega arith)
 body-accepted (suc more) (b ∷ w) l h = (h 0, body-accepted more w (omega arith) (λ i. h (suc i)))
 
-accepted-body : (more : ℕ) (w : List ℕ) → Accepts step (body more) w → (length w ≡ suc more) × Bytes w
-unfolding Accepts judged
+accepted-body : (more : ℕ) (w : List ℕ) → Accepts move (body more) w → (length w ≡ suc more) × Bytes w
+unfolding Accepts
 accepted-body more [] a = absurd a
 accepted-body zero (b ∷ w) a = (ap (λ (l : List ℕ). suc (length l)) (a .1), bytes-cons b w (a .0) (bytes-none w (a .1)))
 accepted-body (suc more) (b ∷ w) a = let x = accepted-body more w (a .1) in (ap suc (x .0), bytes-cons b w (a .0) (x .1))
 
-body-reached : (total : ℕ) (w : List ℕ) → length w ≡ total → Bytes w → Reaches step (enter total) w
+body-reached : (total : ℕ) (w : List ℕ) → length w ≡ total → Bytes w → Reaches move (enter total) w
 body-reached zero [] l h = refl
 body-reached zero (b ∷ w) l h = absurd (omega arith)
 body-reached (suc more) w l h = body-accepted more w l h
 
-reached-body : (total : ℕ) (w : List ℕ) → Reaches step (enter total) w → (length w ≡ total) × Bytes w
+reached-body : (total : ℕ) (w : List ℕ) → Reaches move (enter total) w → (length w ≡ total) × Bytes w
 reached-body zero w a = (ap length a, bytes-none w a)
 reached-body (suc more) w a = accepted-body more w a
 
@@ -149,8 +134,8 @@ size-within before s after b a h =
     le-div-iff-mul-le {k = before} {x = s} {y = most} b .1
     (omega (arith, mul-comm s before, mul-assoc before s after, le-mul-of-pos-right {m = after} (before * s) a))
 
-sizes-accepted : (s : ℕ) (sizes : List ℕ) (before : ℕ) (t : List ℕ) → 1 ≤ before → Positive (s ∷ sizes) → before * product (s ∷ sizes) ≤ most → Accepts step (number (element (before * product (s ∷ sizes))) 0) t
-    → Accepts step (number (size (length sizes) before) 0) (numbers (s ∷ sizes) ++ t)
+sizes-accepted : (s : ℕ) (sizes : List ℕ) (before : ℕ) (t : List ℕ) → 1 ≤ before → Positive (s ∷ sizes) → before * product (s ∷ sizes) ≤ most → Accepts move (number (element (before * product (s ∷ sizes))) 0) t
+    → Accepts move (number (size (length sizes) before) 0) (numbers (s ∷ sizes) ++ t)
 unfolding product numbers
 sizes-accepted s [] before t b p h a =
     rw append-assoc (octets-accepted (size zero before) s t (λ _. p 0 (omega arith)) (size-within before s 1 b (omega arith) h) (rw (mul-one s) at a))
@@ -168,10 +153,10 @@ record Sized (count before : ℕ) (w : List ℕ) : Type 0 where
   positives : Positive sizes
   within : before * product sizes ≤ most
   parts : w ≡ numbers sizes ++ rest
-  reached : Accepts step (number (element (before * product sizes)) 0) rest
+  reached : Accepts move (number (element (before * product sizes)) 0) rest
 
 -- the last size
-sized-one : (before : ℕ) (w : List ℕ) (s : ℕ) (rest : List ℕ) → 0 < s → before * s ≤ most → w ≡ octets s ++ rest → Accepts step (number (element (before * s)) 0) rest → Sized zero before w
+sized-one : (before : ℕ) (w : List ℕ) (s : ℕ) (rest : List ℕ) → 0 < s → before * s ≤ most → w ≡ octets s ++ rest → Accepts move (number (element (before * s)) 0) rest → Sized zero before w
 unfolding product numbers
 sized-one before w s rest p h e a =
     record {
@@ -206,7 +191,7 @@ sized-more count before w s rest p e x =
     more-sizes zero l = p
     more-sizes (suc i) l = x .positives i (omega arith)
 
-sizes-taken : (count before : ℕ) (w : List ℕ) → 1 ≤ before → Accepts step (number (size count before) 0) w → Sized count before w
+sizes-taken : (count before : ℕ) (w : List ℕ) → 1 ≤ before → Accepts move (number (size count before) 0) w → Sized count before w
 unfolding product numbers
 sizes-taken zero before w b a =
     let t = number-begins (size zero before) w a in
@@ -226,13 +211,13 @@ record Ended (count : ℕ) (w : List ℕ) : Type 0 where
   bytes : Bytes array
   parts : w ≡ octets element-size ++ (octets 1 ++ array)
 
-ended-accepted : (count : ℕ) (w : List ℕ) → 1 ≤ count → Ended count w → Accepts step (number (element count) 0) w
+ended-accepted : (count : ℕ) (w : List ℕ) → 1 ≤ count → Ended count w → Accepts move (number (element count) 0) w
 ended-accepted count w h x =
-    subst (Accepts step (number (element count) 0)) (sym (x .parts))
+    subst (Accepts move (number (element count) 0)) (sym (x .parts))
     (octets-accepted (element count) (x .element-size) (octets 1 ++ x .array) (λ e. absurd (false≢true e)) (le-div-iff-mul-le {k = count} {x = x .element-size} {y = most} h .1 (rw (mul-comm (x .element-size) count) (x .within)))
     (octets-accepted (processing (count * x .element-size)) 1 (x .array) (λ _. omega arith) (omega arith) (body-reached (count * x .element-size) (x .array) (x .counted) (x .bytes))))
 
-accepted-ended : (count : ℕ) (w : List ℕ) → 1 ≤ count → Accepts step (number (element count) 0) w → Ended count w
+accepted-ended : (count : ℕ) (w : List ℕ) → 1 ≤ count → Accepts move (number (element count) 0) w → Ended count w
 accepted-ended count w h a =
     let e = number-begins (element count) w a in
     let q = number-begins (processing (count * e .value)) (e .rest) (e .reached) in
@@ -250,19 +235,19 @@ accepted-ended count w h a =
 -- ---- the pack
 
 -- NDim, and the sizes
-dims-accepted : (sizes t : List ℕ) → 1 ≤ length sizes → length sizes ≤ 8 → Positive sizes → product sizes ≤ most → Accepts step (number (element (product sizes)) 0) t → Accepts step (number dims 0) (octets (length sizes) ++ (numbers sizes ++ t))
+dims-accepted : (sizes t : List ℕ) → 1 ≤ length sizes → length sizes ≤ 8 → Positive sizes → product sizes ≤ most → Accepts move (number (element (product sizes)) 0) t → Accepts move (number dims 0) (octets (length sizes) ++ (numbers sizes ++ t))
 dims-accepted [] t h l p m a = absurd (omega arith)
 dims-accepted (s ∷ sizes) t h l p m a =
     let e : suc (length sizes) - 1 ≡ length sizes = omega arith in
     let o : 1 * product (s ∷ sizes) ≡ product (s ∷ sizes) = omega arith in
     octets-accepted dims (suc (length sizes)) (numbers (s ∷ sizes) ++ t) (λ _. omega arith) l
-    (subst (λ (k : ℕ). Accepts step (number (size k 1) 0) (numbers (s ∷ sizes) ++ t)) (sym e) (sizes-accepted s sizes 1 t (omega arith) p (rw o m) (rw o a)))
+    (subst (λ (k : ℕ). Accepts move (number (size k 1) 0) (numbers (s ∷ sizes) ++ t)) (sym e) (sizes-accepted s sizes 1 t (omega arith) p (rw o m) (rw o a)))
 
-pub pack-accepted : (w : List ℕ) → ArrayPack w → Accepts step (number dims 0) w
+pub pack-accepted : (w : List ℕ) → ArrayPack w → Accepts move (number dims 0) w
 pack-accepted w p =
     let a = p .meaning in
     let g = p .lawful in
-    subst (Accepts step (number dims 0)) (p .spelled)
+    subst (Accepts move (number dims 0)) (p .spelled)
     (dims-accepted (a .sizes) (octets (a .element) ++ (octets 1 ++ a .body)) (g .some-sizes) (g .few-sizes) (g .size-least) (g .elements-most)
     (ended-accepted (product (a .sizes)) (octets (a .element) ++ (octets 1 ++ a .body)) (product-positive (a .sizes) (g .size-least))
     (record { element-size = a .element; array = a .body; within = g .bytes-most; counted = g .body-count; bytes = g .body-bytes; parts = refl })))
@@ -270,7 +255,7 @@ pack-accepted w p =
 spelling : (w rest sizes behind t : List ℕ) (n : ℕ) → w ≡ octets n ++ rest → n ≡ length sizes → rest ≡ numbers sizes ++ behind → behind ≡ t → w ≡ octets (length sizes) ++ (numbers sizes ++ t)
 spelling w rest sizes behind t n e l s b = e ∙ ap₂ (λ (k : ℕ) (x : List ℕ). octets k ++ x) l (s ∙ ap (λ (x : List ℕ). numbers sizes ++ x) b)
 
-pub accepted-pack : (w : List ℕ) → Accepts step (number dims 0) w → ArrayPack w
+pub accepted-pack : (w : List ℕ) → Accepts move (number dims 0) w → ArrayPack w
 accepted-pack w a =
     let d = number-begins dims w a in
     let s = sizes-taken (d .value - 1) 1 (d .rest) (omega arith) (d .reached) in

@@ -1,31 +1,16 @@
 -- The machine of array packs keeps the laws of machines. Assumes nothing.
 use Prim.Native.Nat.{ℕ, zero, suc, _+_, _-_, _*_, _/_, _≤_, _<_}
 use mathlib.Core.Path.{_≡_, refl, sym, subst}
-use mathlib.Core.Bool.{Bool, true, false, _&&_, and-false, false≢true}
-use mathlib.Core.List.{[]}
+use mathlib.Core.Bool.{true, false≢true}
 use native.Mathlib.Nat.{mul-le-mul-left, le-div-iff-mul-le, mul-comm, mul-pos, add-zero}
 use native.Mathlib.Omega.{arith}
-use borrow.Author.Tests.{eqb-true, lt-ltb, ltb-true, ltb-false, eqb-false, le-ltb, ne-eqb}
-use lib.Dec.{eqb, ltb, lit<, lit≤}
+use lib.Dec.{lit<, lit≤}
 use Rattle.verdict.specs.Machine.{on, Falls, Nears, Laws}
-use Rattle.verdict.proofs.Cases.{by-test, either, and-right}
-use Rattle.verdict.proofs.Judging.{Kept, judged-kept, judged-by}
+use Rattle.number.specs.declared.Effect.{Effect}
+use Rattle.number.proofs.Octet.{Does, ends, goes, fails, does, effect-ends}
 use Rattle.array.specs.Meaning.{most}
-use Rattle.array.specs.Table.{Field, dims, size, element, processing, limit, positive, with, smallest, State, number, body, enter, behind, behindSize, behindOctet, numberRows}
-use Rattle.array.specs.Machine.{step, least, GoodField, Good}
-
--- ---- what the rules of an octet leave
-
-pub record Octet (field : Field) (value octet : ℕ) : Type 0 where
-  pub within : smallest value octet ≤ limit field
-  pub counts : positive field ≡ true → octet < 128 → 0 < with value octet
-
-pub octet-kept : (field : Field) (value octet : ℕ) → Kept (numberRows field value octet) → Octet field value octet
-octet-kept field value octet k =
-    record {
-      within = ltb-false (limit field) (smallest value octet) (k .1 .1 .0);
-      counts = λ p l. omega (arith, eqb-false (with value octet) 0 (and-right (ltb octet 128) (eqb (with value octet) 0) (and-right (positive field) _ (k .1 .0) p) (lt-ltb octet 128 l)));
-    }
+use Rattle.array.specs.Table.{Field, dims, size, element, processing, limit, positive, State, number, body, enter, behind, behindSize, behindEffect, move}
+use Rattle.array.specs.Machine.{least, GoodField, Good}
 
 -- a value that keeps its limit keeps the product's
 pub limit-product : (product x : ℕ) → 1 ≤ product → x ≤ most / product → product * x ≤ most
@@ -51,19 +36,13 @@ more-falls (size more product) value x g l v = ((g, l), omega arith)
 more-falls (element product) value x g l v = ((g, l), omega (arith, mul-le-mul-left {m = value * 128} {n = x * 128} product (omega arith)))
 more-falls (processing total) value x g l v = ((g, l), omega arith)
 
-pub ends-smallest : (value octet : ℕ) → ltb octet 128 ≡ true → smallest value octet ≡ with value octet
-ends-smallest value octet e = rw e
-
-pub more-smallest : (value octet : ℕ) → ltb octet 128 ≡ false → smallest value octet ≡ with value octet * 128
-more-smallest value octet e = rw e
-
-falls-number : (field : Field) (value octet : ℕ) → Good (number field value) → Falls least Good (least (number field value)) (step (number field value) octet)
-falls-number field value octet g =
-    judged-by (Falls least Good (least (number field value))) (numberRows field value octet) (behindOctet field value octet) (λ r. tt)
-    (λ k. let o = octet-kept field value octet k in
-    by-test (Falls least Good (least (number field value))) (ltb octet 128) _ _
-    (λ e. behind-falls field value (with value octet) (g .0) (subst (λ (k : ℕ). k ≤ limit field) (ends-smallest value octet e) (o .within)) (λ p. o .counts p (ltb-true octet 128 e)) (omega arith))
-    (λ e. more-falls field value (with value octet) (g .0) (subst (λ (k : ℕ). k ≤ limit field) (more-smallest value octet e) (o .within)) (omega arith)))
+falls-number : (field : Field) (value octet : ℕ) → Good (number field value) → Falls least Good (least (number field value)) (move (number field value) octet)
+falls-number field value octet g = go (does octet value (positive field) (limit field))
+  where
+    go : {e : Effect} → Does octet value (positive field) (limit field) e → Falls least Good (least (number field value)) (behindEffect field e)
+    go (ends l p h) = behind-falls field value (value * 128 + octet) (g .0) h p (omega arith)
+    go (goes d e p h) = more-falls field value (value * 128 + d) (g .0) h (omega arith)
+    go fails = tt
 
 falls-body : (more : ℕ) → more < most → Falls least Good (suc more) (enter more)
 falls-body zero h = omega arith
@@ -71,27 +50,11 @@ falls-body (suc more) h = (omega arith, omega arith)
 
 -- some byte brings the machine nearer
 abbrev Near : State → Type 0
-Near s = (b : ℕ) × (b < 256) × Nears least (least s) (step s b)
-
--- a last octet that breaks no rule
-pub ends-kept : (field : Field) (value octet : ℕ) → octet < 128 → (positive field ≡ true → 0 < value * 128 + octet) → value * 128 + octet ≤ limit field → Kept (numberRows field value octet)
-ends-kept field value octet h p l =
-    (rw (ne-eqb octet 0x80 (λ z. omega arith)) (and-false (eqb value 0)), (counts (positive field) refl, (rw (lt-ltb octet 128 h) (le-ltb (limit field) (value * 128 + octet) l), tt)))
-  where
-    counts : (t : Bool) → positive field ≡ t → t && (ltb octet 128 && eqb (with value octet) 0) ≡ false
-    counts true e = rw (lt-ltb octet 128 h, ne-eqb (value * 128 + octet) 0 (λ z. omega (arith, p e)))
-    counts false e = refl
-
--- any other octet that breaks none
-pub more-kept : (field : Field) (value d : ℕ) → 0 < value * 128 + d → (value * 128 + d) * 128 ≤ limit field → Kept (numberRows field value (128 + d))
-more-kept field value d p l =
-    let e : 128 + d - 128 ≡ d = omega arith in
-    let f : ltb (128 + d) 128 ≡ false = le-ltb (128 + d) 128 (omega arith) in
-    (either (eqb value 0) (λ t. rw (t, ne-eqb (128 + d) 0x80 (λ z. omega (arith, eqb-true value 0 t)))) (λ t. rw t), (rw f (and-false (positive field)), (rw (f, e) (le-ltb (limit field) ((value * 128 + d) * 128) l), tt)))
+Near s = (b : ℕ) × (b < 256) × Nears least (least s) (move s b)
 
 ends-near : (field : Field) (value octet : ℕ) → octet < 128 → (positive field ≡ true → 0 < value * 128 + octet) → value * 128 + octet ≤ limit field → Nears least (least (number field value)) (behind field (value * 128 + octet)) → Near (number field value)
 ends-near field value octet h p l n =
-    (octet, omega arith, subst (Nears least (least (number field value))) (sym (judged-kept (numberRows field value octet) (behindOctet field value octet) (ends-kept field value octet h p l))) (rw (lt-ltb octet 128 h) n))
+    (octet, omega arith, subst (λ (e : Effect). Nears least (least (number field value)) (behindEffect field e)) (sym (effect-ends octet value (positive field) (limit field) h p l)) n)
 
 size-near : (more product : ℕ) → Nears least (more + 3) (behindSize more product)
 size-near zero product = omega arith
@@ -110,16 +73,13 @@ nears-number (size more product) (suc value) g = ends-near (size more product) (
 nears-number (element product) value g = ends-near (element product) value 0 (lit< tt) (λ e. absurd (false≢true e)) (omega (arith, g .1)) (rw (add-zero (value * 128)) (omega arith))
 nears-number (processing total) value g = ends-near (processing total) value 1 (lit< tt) (λ _. omega arith) (omega (arith, g .1)) (subst (λ (k : ℕ). Nears least k (enter total)) (omega arith) (enter-near total))
 
-nears-body : (more : ℕ) → Near (body more)
-nears-body more = (0, lit< tt, subst (Nears least (suc more)) (sym (judged-kept [] (enter more) tt)) (enter-near more))
-
-pub array-laws : Laws step least Good
+pub array-laws : Laws move least Good
 array-laws = record { falls = falls; nears = nears }
   where
-    falls : (s : State) → Good s → (b : ℕ) → b < 256 → Falls least Good (least s) (step s b)
+    falls : (s : State) → Good s → (b : ℕ) → b < 256 → Falls least Good (least s) (move s b)
     falls (number field value) g b h = falls-number field value b g
-    falls (body more) g b h = subst (Falls least Good (suc more)) (sym (judged-kept [] (enter more) tt)) (falls-body more g)
+    falls (body more) g b h = falls-body more g
 
     nears : (s : State) → Good s → Near s
     nears (number field value) g = nears-number field value g
-    nears (body more) g = nears-body more
+    nears (body more) g = (0, lit< tt, enter-near more)

@@ -1,4 +1,11 @@
+pub mod Products
 pub mod Keeping
 pub mod Accepting
-pub mod Reasons
 pub mod Verdicts
+pub mod Decoding
+pub mod Drawing
+pub mod Walking
+pub mod EightSizes
+pub mod Offsets
+pub mod Answers
+pub mod Only

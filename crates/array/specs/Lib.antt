@@ -2,3 +2,6 @@ pub mod Meaning
 pub mod Spelling
 pub mod Table
 pub mod Machine
+pub mod Decoded
+pub mod Reading
+pub mod Walk

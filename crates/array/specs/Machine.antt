@@ -2,13 +2,9 @@
 use Prim.Native.Nat.{ℕ, suc, _+_, _*_, _≤_, _<_}
 use mathlib.Core.List.{List}
 use Rattle.verdict.specs.declared.Verdict.{Verdict}
-use Rattle.verdict.specs.Machine.{Move, run}
-use Rattle.verdict.specs.Rows.{judged}
+use Rattle.verdict.specs.Machine.{Move, run, reach, led}
 use Rattle.array.specs.Meaning.{most}
-use Rattle.array.specs.Table.{Field, dims, size, element, processing, limit, State, number, body, rows, move}
-
-abbrev pub step : State → ℕ → Move State
-step s b = judged (rows s b) (move s b)
+use Rattle.array.specs.Table.{Field, dims, size, element, processing, limit, State, number, body, move}
 
 -- the fewest bytes that are missing: an octet to end the number begun, one for each later number, and the array
 abbrev pub least : State → ℕ
@@ -32,4 +28,11 @@ Good (body more) = more < most
 
 -- the verdict on a string of bytes
 abbrev pub verdictOf : List ℕ → Verdict
-verdictOf bytes = run step least (number dims 0) bytes
+verdictOf bytes = run move least (number dims 0) bytes
+
+-- the verdict on all the bytes from a state that the machine has reached at a place, and behind a move
+abbrev pub verdictAt : State → List ℕ → ℕ → Verdict
+verdictAt s bytes place = reach move least s bytes place
+
+abbrev pub verdictBehind : Move State → List ℕ → ℕ → Verdict
+verdictBehind next bytes place = led move least next bytes place

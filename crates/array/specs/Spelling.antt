@@ -1,15 +1,10 @@
 -- The bytes of an array pack, and what an array pack is.
 use Prim.Native.Nat.{ℕ}
 use mathlib.Core.Path.{_≡_}
-use mathlib.Core.List.{List, [], _∷_, _++_}
+use mathlib.Core.List.{List, _++_}
 use lib.ListN.{length}
-use Rattle.number.specs.Octets.{octets}
+use Rattle.number.specs.Octets.{octets, numbers}
 use Rattle.array.specs.Meaning.{Array, Lawful}
-
--- numbers in their shortest form, one after the other
-unfoldable pub numbers : List ℕ → List ℕ
-numbers [] = []
-numbers (value ∷ values) = octets value ++ numbers values
 
 -- NDim, the sizes, E, processing 1, the array
 abbrev pub bytesOf : Array → List ℕ

@@ -1,12 +1,15 @@
 -- Document 01's table for array packs: the rules of an octet, by the number that it stands in.
-use Prim.Native.Nat.{ℕ, zero, suc, _+_, _-_, _*_, _/_}
-use mathlib.Core.Bool.{Bool, true, false, _&&_, cond}
-use mathlib.Core.List.{List, [], _∷_}
-use lib.Dec.{eqb, ltb}
+use Prim.Native.Nat.{ℕ, zero, suc, _-_, _*_, _/_}
+use mathlib.Core.Bool.{Bool, true, false, cond}
+use mathlib.Core.List.{List}
+use lib.Dec.{eqb}
 use Rattle.verdict.specs.declared.Reason.{Reason}
-use Rattle.verdict.specs.declared.Reason.the-variants.{Zero, TooLarge, PaddedNumber, Processing}
-use Rattle.verdict.specs.Machine.{Move, on, done, bad}
-use Rattle.verdict.specs.Rows.{Row, Blamed}
+use Rattle.verdict.specs.declared.Reason.the-variants.{Processing}
+use Rattle.verdict.specs.Numbers.{numberOf}
+use Rattle.verdict.specs.Machine.{Move, on, done, bad, Blames}
+use Rattle.number.specs.declared.Effect.{Effect}
+use Rattle.number.specs.declared.Effect.the-variants.{Ends, GoesOn, Refused}
+use Rattle.number.specs.Octet.{effectOf}
 use Rattle.array.specs.Meaning.{most}
 
 -- the numbers of a pack: NDim; a size with so many sizes behind it and this product of those before it; E, and processing, with the
@@ -31,28 +34,12 @@ positive (size more product) = true
 positive (element product) = false
 positive (processing total) = true
 
--- the reason above the limit
-abbrev pub over : Field → Reason
-over dims = TooLarge
-over (size more product) = TooLarge
-over (element product) = TooLarge
-over (processing total) = Processing
-
--- a number's value with one more octet, seven bits
-abbrev pub with : ℕ → ℕ → ℕ
-with value octet = value * 128 + cond (ltb octet 128) octet (octet - 128)
-
--- its smallest ending: itself with the last octet, else one more octet 0x00
-abbrev pub smallest : ℕ → ℕ → ℕ
-smallest value octet = cond (ltb octet 128) (with value octet) (with value octet * 128)
-
--- an octet of a number begun with a value: 3 for a first octet 0x80, 1 for a number 0 that must be 1 or more, the limit's reason
-abbrev pub numberRows : Field → ℕ → ℕ → List Row
-numberRows field value octet =
-    record { broken = eqb value 0 && eqb octet 0x80; reason = PaddedNumber }
-    ∷ record { broken = positive field && (ltb octet 128 && eqb (with value octet) 0); reason = Zero }
-    ∷ record { broken = ltb (limit field) (smallest value octet); reason = over field }
-    ∷ []
+-- a number's reason in its field: above the limit, where a number has 2, processing has 12
+abbrev pub reasonIn : Field → Reason → Reason
+reasonIn dims reason = reason
+reasonIn (size more product) reason = reason
+reasonIn (element product) reason = reason
+reasonIn (processing total) reason = cond (eqb (numberOf reason) 2) Processing reason
 
 -- where bytes stand: within a number begun with a value, 0 before its first octet, or in the array with so many bytes behind the next one
 pub data State : Type 0 where
@@ -76,31 +63,17 @@ behind (size more product) value = behindSize more (product * value)
 behind (element product) value = on (number (processing (product * value)) 0)
 behind (processing total) value = enter total
 
--- behind an octet of a number
-abbrev pub behindOctet : Field → ℕ → ℕ → Move State
-behindOctet field value octet = cond (ltb octet 128) (behind field (with value octet)) (on (number field (with value octet)))
+-- an octet ends its field's number, goes on with it, or is refused
+abbrev pub behindEffect : Field → Effect → Move State
+behindEffect field (Ends value) = behind field value
+behindEffect field (GoesOn value) = on (number field value)
+behindEffect field (Refused reason) = bad (reasonIn field reason)
 
--- the rules for a byte where bytes stand: an octet's, and none in the array
-abbrev pub rows : State → ℕ → List Row
-rows (number field value) octet = numberRows field value octet
-rows (body more) b = []
-
+-- what a byte does where bytes stand: an octet by the rules of numbers with its field's limits, a byte of the array by none
 abbrev pub move : State → ℕ → Move State
-move (number field value) octet = behindOctet field value octet
+move (number field value) octet = behindEffect field (effectOf octet value (positive field) (limit field))
 move (body more) b = enter more
 
--- the rules where a move leads; none behind a whole pack
-abbrev pub rowsBehind : Move State → (State → List Row) → List Row
-rowsBehind (on s) rest = rest s
-rowsBehind done rest = []
-rowsBehind (bad reason) rest = []
-
--- the rules for the last of some bytes, by where the others lead
-unfoldable pub rowsFrom : State → List ℕ → List Row
-rowsFrom s [] = []
-rowsFrom s (b ∷ []) = rows s b
-rowsFrom s (b ∷ c ∷ w) = rowsBehind (move s b) (λ t. rowsFrom t (c ∷ w))
-
--- the table: the reason why the last of some bytes is refused
+-- the table: the reason why the last of some bytes is refused, by where the others lead
 abbrev pub Why : List ℕ → Reason → Type 0
-Why w reason = Blamed (rowsFrom (number dims 0) w) reason
+Why w reason = Blames move (number dims 0) w reason

@@ -1,4 +1,5 @@
 pub mod Octet
 pub mod Drawing
 pub mod Octets
+pub mod Front
 pub mod Only

@@ -16,7 +16,7 @@ use Rattle.number.specs.declared.Drawn.{Drawn}
 use Rattle.number.specs.declared.Drawn.the-variants.{Number, Cut, Refused}
 use Rattle.number.specs.Draw.{after, drawOn}
 use Rattle.number.specs.Octets.{highIn, high, octets}
-use Rattle.number.proofs.Octet.{ended-well, gone-well}
+use Rattle.number.proofs.Octet.{Does, ends as octet-ends, goes as octet-goes, fails as octet-fails, does, effect-ends, effect-goes}
 
 -- a bound that is great enough does not matter
 high-bound : (f g v : ℕ) → v ≤ f → v ≤ g → highIn f v ≡ highIn g v
@@ -94,11 +94,11 @@ octets-some v = rw length-append (omega arith)
 module _ (v d place : ℕ) (positive : Bool) (most : ℕ) (t : List ℕ) where
   goes-drawn : 0 < v * 128 + d → (v * 128 + d) * 128 ≤ most → drawOn ((128 + d) ∷ t) place v positive most ≡ drawOn t (place + 1) (v * 128 + d) positive most
   unfolding drawOn
-  goes-drawn p h = let e : 128 + d - 128 ≡ d = omega arith in rw (le-ltb (128 + d) 128 (omega arith), e, gone-well most (v * 128 + d) p h)
+  goes-drawn p h = rw (effect-goes d v positive most p h)
 
   ends-drawn : d < 128 → (positive ≡ true → 0 < v * 128 + d) → v * 128 + d ≤ most → drawOn (d ∷ t) place v positive most ≡ Number (v * 128 + d) (place + 1)
   unfolding drawOn
-  ends-drawn l p h = rw (lt-ltb d 128 l, ended-well positive most (v * 128 + d) p h)
+  ends-drawn l p h = rw (effect-ends d v positive most l p h)
 
 module _ (place : ℕ) (positive : Bool) (most : ℕ) where
   begun-drawn : {v : ℕ} → Begun v → (t : List ℕ) → v * 128 ≤ most → drawOn (high v ++ t) place 0 positive most ≡ drawOn t (place + length (high v)) v positive most
@@ -143,12 +143,12 @@ module _ (positive : Bool) (most : ℕ) where
   draws : (s : List ℕ) (place value : ℕ) → Draws s place value (drawOn s place value positive most)
   unfolding drawOn
   draws [] place value = cuts
-  draws (o ∷ t) place value =
-      let P : Effect → Type 0 = λ e. Draws (o ∷ t) place value (after e place (λ v. drawOn t (place + 1) v positive most)) in
-      let n = value * 128 + o in let m = value * 128 + (o - 128) in
-      by-test P (ltb o 128) _ _
-      (λ h. by-test P (positive && eqb n 0) _ _ (λ _. fails) (λ z. by-test P (ltb most n) _ _ (λ _. fails) (λ l. ends (ltb-true o 128 h) (λ p. omega (arith, eqb-false n 0 (rw p at z))) (ltb-false most n l))))
-      (λ h. by-test P (eqb m 0) _ _ (λ _. fails) (λ z. by-test P (ltb most (m * 128)) _ _ (λ _. fails) (λ l. goes (o - 128) (omega (arith, ltb-false o 128 h)) (omega (arith, eqb-false m 0 z)) (ltb-false most (m * 128) l) (draws t (place + 1) m))))
+  draws (o ∷ t) place value = go (does o value positive most) (λ v. draws t (place + 1) v)
+    where
+      go : {e : Effect} → Does o value positive most e → ((v : ℕ) → Draws t (place + 1) v (drawOn t (place + 1) v positive most)) → Draws (o ∷ t) place value (after e place (λ v. drawOn t (place + 1) v positive most))
+      go (octet-ends l p h) ih = ends l p h
+      go (octet-goes d e p h) ih = goes d e p h (ih (value * 128 + d))
+      go octet-fails ih = fails
 
   begun-refused : {s : List ℕ} {place value : ℕ} {r : Refusal} → Draws s place value (Refused r) → (place ≤ r .place) × (r .place < place + length s)
   begun-refused (goes d o p h w) = let x = begun-refused w in omega arith

@@ -1,3 +1,4 @@
 pub mod Octet
 pub mod Draw
 pub mod Octets
+pub mod Front

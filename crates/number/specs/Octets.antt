@@ -15,3 +15,8 @@ high value = highIn value value
 
 unfoldable pub octets : ℕ → List ℕ
 octets value = high (value / 128) ++ (value % 128 ∷ [])
+
+-- values in their shortest form, one after the other
+unfoldable pub numbers : List ℕ → List ℕ
+numbers [] = []
+numbers (value ∷ values) = octets value ++ numbers values

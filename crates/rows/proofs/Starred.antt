@@ -8,7 +8,7 @@ use lib.Dec.{ltb}
 use lib.ListN.{getD, drop}
 use native.Mathlib.Omega.{arith}
 use Rattle.verdict.specs.declared.Reason.{Reason}
-use Rattle.verdict.specs.declared.Reason.the-variants.{TooLarge, ValueLength, Empty, VectorEnd, ValueRange}
+use Rattle.verdict.specs.declared.Reason.the-variants.{Zero, TooLarge, PaddedNumber, ValueLength, Empty, VectorEnd, ValueRange, Processing}
 use Rattle.verdict.specs.declared.Verdict.{Verdict}
 use Rattle.verdict.specs.declared.Verdict.the-variants.{Complete, Unfinished, Refused}
 use Rattle.verdict.specs.Machine.{run}
@@ -20,14 +20,26 @@ use Rattle.matrix.specs.Pack.{MatrixPack}
 use Rattle.matrix.specs.Table.{Why}
 use Rattle.matrix.specs.Machine.{enter, runBytes, verdictOf}
 use Rattle.matrix.proofs.Verdicts.{matrix-said}
+use Rattle.array.specs.Spelling.{ArrayPack}
+use Rattle.array.specs.Table.{Why as ArrayWhy}
+use Rattle.array.specs.Machine.{verdictOf as arrayVerdictOf}
+use Rattle.array.proofs.Verdicts.{array-said}
 
--- bytes, and what is to be said of them
+pub data Kind : Type 0 where
+  matrix : Kind
+  array : Kind
+
+-- a kind of pack, bytes, and what is to be said of them
 pub record Row : Type 0 where
+  pub kind : Kind
   pub bytes : List ℕ
   pub said : Verdict
 
 abbrev row : List ℕ → Verdict → Row
-row bytes said = record { bytes = bytes; said = said }
+row bytes said = record { kind = matrix; bytes = bytes; said = said }
+
+abbrev arrayRow : List ℕ → Verdict → Row
+arrayRow bytes said = record { kind = array; bytes = bytes; said = said }
 
 abbrev refused : Reason → ℕ → Verdict
 refused reason place = Refused (record { reason = reason; place = place })
@@ -66,12 +78,41 @@ rows =
     ∷ row (0x02 ∷ 0x88 ∷ 0x00 ∷ 0x3F ∷ 0xF0 ∷ 0 ∷ 0 ∷ 0 ∷ 0 ∷ 0 ∷ 0 ∷ []) (Complete 11)
     ∷ row (0x02 ∷ 0x88 ∷ 0x00 ∷ 0x3F ∷ 0xF0 ∷ 0 ∷ 0 ∷ 0 ∷ 0 ∷ 0 ∷ 1 ∷ []) (refused ValueRange 10)
     ∷ row (0x03 ∷ 0xB2 ∷ 0x04 ∷ 0xA0 ∷ 0x3F ∷ 0x80 ∷ 0 ∷ 0 ∷ 0x40 ∷ 0 ∷ 0 ∷ 0 ∷ 0x40 ∷ 0x80 ∷ 0 ∷ 0 ∷ 0x60 ∷ 0 ∷ 0x20 ∷ 0 ∷ []) (Complete 20)
+    ∷ arrayRow [] (Unfinished 4)
+    ∷ arrayRow (0x01 ∷ 0x01 ∷ 0x00 ∷ 0x01 ∷ []) (Complete 4)
+    ∷ arrayRow (0x01 ∷ 0x82 ∷ 0x80 ∷ 0x00 ∷ []) (Unfinished 2)
+    ∷ arrayRow (0x01 ∷ 0x82 ∷ 0x80 ∷ 0x01 ∷ []) (refused TooLarge 3)
+    ∷ arrayRow (0x01 ∷ 0x82 ∷ 0x81 ∷ []) (refused TooLarge 2)
+    ∷ arrayRow (0x01 ∷ 0x02 ∷ 0x81 ∷ []) (Unfinished 258)
+    ∷ arrayRow (0x08 ∷ []) (Unfinished 10)
+    ∷ arrayRow (0x09 ∷ []) (refused TooLarge 0)
+    ∷ arrayRow (0x80 ∷ []) (refused PaddedNumber 0)
+    ∷ arrayRow (0x01 ∷ 0x00 ∷ []) (refused Zero 1)
+    ∷ arrayRow (0x02 ∷ 0x81 ∷ 0x00 ∷ 0x82 ∷ 0x00 ∷ []) (Unfinished 2)
+    ∷ arrayRow (0x02 ∷ 0x81 ∷ 0x00 ∷ 0x82 ∷ 0x01 ∷ []) (refused TooLarge 4)
+    ∷ arrayRow (0x01 ∷ 0x82 ∷ 0x80 ∷ 0x00 ∷ 0x01 ∷ []) (Unfinished 32769)
+    ∷ arrayRow (0x01 ∷ 0x82 ∷ 0x80 ∷ 0x00 ∷ 0x02 ∷ []) (refused TooLarge 4)
+    ∷ arrayRow (0x01 ∷ 0x01 ∷ 0x00 ∷ 0x00 ∷ []) (refused Zero 3)
+    ∷ arrayRow (0x01 ∷ 0x01 ∷ 0x00 ∷ 0x02 ∷ []) (refused Processing 3)
+    ∷ arrayRow (0x01 ∷ 0x01 ∷ 0x00 ∷ 0x80 ∷ []) (refused PaddedNumber 3)
+    ∷ arrayRow (0x01 ∷ 0x01 ∷ 0x00 ∷ 0x81 ∷ []) (refused Processing 3)
+    ∷ arrayRow (0x02 ∷ 0x02 ∷ 0x01 ∷ 0x02 ∷ 0x01 ∷ 0 ∷ 0 ∷ 0 ∷ []) (Unfinished 1)
+    ∷ arrayRow (0x02 ∷ 0x02 ∷ 0x01 ∷ 0x02 ∷ 0x01 ∷ 0 ∷ 0 ∷ 0 ∷ 0 ∷ 0 ∷ []) (Complete 9)
     ∷ []
+
+-- what a verdict says of a kind's packs
+abbrev pub SaysOf : Kind → List ℕ → Verdict → Type 0
+SaysOf matrix = Says MatrixPack Why
+SaysOf array = Says ArrayPack ArrayWhy
 
 -- of each row's bytes the verdict is said
 abbrev pub Said : List Row → Type 0
 Said [] = Unit {0}
-Said (r ∷ rs) = Says MatrixPack Why (r .bytes) (r .said) × Said rs
+Said (r ∷ rs) = SaysOf (r .kind) (r .bytes) (r .said) × Said rs
+
+abbrev verdictBy : Kind → List ℕ → Verdict
+verdictBy matrix = verdictOf
+verdictBy array = arrayVerdictOf
 
 -- whether each of some numbers is a byte
 abbrev bytely : List ℕ → Bool
@@ -86,11 +127,16 @@ bytely-bytes (b ∷ bs) e i = at i (and-eq-true-iff (ltb b 256) (bytely bs) .0 e
     at zero h ih = ltb-true b 256 (h .0)
     at (suc i) h ih = ih (h .1) i
 
--- where the run says what the rows say, so do the definitions
-run-said : (rs : List Row) → map (λ (r : Row). bytely (r .bytes)) rs ≡ map (λ (r : Row). true) rs → map (λ (r : Row). verdictOf (r .bytes)) rs ≡ map (λ (r : Row). r .said) rs → Said rs
+-- the run of each kind says its verdict
+kind-said : (kind : Kind) (bs : List ℕ) → Bytes bs → SaysOf kind bs (verdictBy kind bs)
+kind-said matrix = matrix-said
+kind-said array = array-said
+
+-- where the runs say what the rows say, so do the definitions
+run-said : (rs : List Row) → map (λ (r : Row). bytely (r .bytes)) rs ≡ map (λ (r : Row). true) rs → map (λ (r : Row). verdictBy (r .kind) (r .bytes)) rs ≡ map (λ (r : Row). r .said) rs → Said rs
 run-said [] b e = tt
 run-said (r ∷ rs) b e = (
-  subst (Says MatrixPack Why (r .bytes)) (ap (λ (l : List Verdict). getD l 0 (r .said)) e) (matrix-said (r .bytes) (bytely-bytes (r .bytes) (ap (λ (l : List Bool). getD l 0 true) b))),
+  subst (SaysOf (r .kind) (r .bytes)) (ap (λ (l : List Verdict). getD l 0 (r .said)) e) (kind-said (r .kind) (r .bytes) (bytely-bytes (r .bytes) (ap (λ (l : List Bool). getD l 0 true) b))),
   run-said rs (ap (drop 1) b) (ap (drop 1) e),
 )
 

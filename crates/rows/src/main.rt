@@ -1,5 +1,6 @@
-// Runs rows of bytes through the readers and says the verdict on each: "S HEX" one matrix pack, "s HEX" every beginning of one.
-ghost use Prim.Native.Nat.{_+_, _*_, _≤_};
+// Runs rows of bytes through the readers and says what each gives: the verdict on "S HEX", a matrix pack, and "M HEX", an array pack
+// ("s HEX", "m HEX": on every beginning too); "A HEX COUNT INDEX ..": an array pack of these bytes and so many of 0, read and addressed.
+ghost use Prim.Native.Nat.{_+_, _*_, _≤_, _<_};
 ghost use lib.ListN.{length};
 use libc::STDIN_FILENO;
 use libc::STDOUT_FILENO;
@@ -28,7 +29,7 @@ fn pairs(text: &[u8], from: usize, out: &[u8]) -> usize
 // The bytes that a text spells from a place on, up to what is no pair of digits: how many.
 fn decode(text: &[u8], from: usize, out: &mut [u8]) -> usize
     requires { ⌜ from ≤ length (now text) ⌝ }
-    ensures { λ r. ⌜ r ≤ length (now (out .exit)) ⌝ }
+    ensures { λ r. ⌜ (from + 2 * r ≤ length (now (text .entry))) × (r ≤ length (now (out .exit))) ⌝ }
 {
     let most = pairs(text, from, out);
     let mut n = 0;
@@ -69,30 +70,176 @@ fn say(said: Verdict) {
     io::write_all(STDOUT_FILENO, b"\n");
 }
 
+// The verdict on bytes as a pack of a row's kind.
+fn verdict_on(kind: u8, bytes: &[u8]) -> Verdict {
+    match kind {
+        77 => array::verdict(bytes),
+        109 => array::verdict(bytes),
+        _ => matrix::verdict(bytes),
+    }
+}
+
 // Every beginning of the bytes, by its count.
-fn beginnings(bytes: &[u8]) {
+fn beginnings(kind: u8, bytes: &[u8]) {
     let mut k = 0;
     while k < bytes.len() {
         io::print_decimal(STDOUT_FILENO, k as u64);
         io::write_all(STDOUT_FILENO, b" ");
-        say(matrix::verdict(&bytes[..k]));
+        say(verdict_on(kind, &bytes[..k]));
         k += 1;
     }
 }
 
-// One row: its kind, a space, its bytes.
+// A row of a pack: its kind, a space, its bytes.
+fn pack_row(text: &[u8], out: &mut [u8])
+    requires { ⌜ 2 ≤ length (now text) ⌝ }
+{
+    let kind = text[0];
+    let n = decode(text, 2, out);
+    if kind > 90 {
+        beginnings(kind, &out[..n]);
+    }
+    io::write_all(STDOUT_FILENO, text);
+    io::write_all(STDOUT_FILENO, b" ");
+    say(verdict_on(kind, &out[..n]));
+}
+
+// A decimal number in a text, and the place behind it.
+struct Found {
+    value: usize,
+    next: usize,
+}
+
+// The number behind the space at a place, held where ten digits end.
+fn decimal(text: &[u8], from: usize) -> Found
+    requires { ⌜ from < length (now text) ⌝ }
+    ensures { λ r. ⌜ (from < r .next) × (r .next ≤ length (now (text .entry))) ⌝ }
+{
+    let mut value = 0;
+    let mut next = from + 1;
+    while next < text.len() {
+        let c = text[next];
+        if c == 32 {
+            return Found { value, next };
+        }
+        value = (value * 10 + (c % 16) as usize) % 10000000000;
+        next += 1;
+    }
+    Found { value, next }
+}
+
+// The numbers behind the spaces from a place on, as far as there is room for them: how many.
+fn decimals(text: &[u8], from: usize, out: &mut [usize]) -> usize
+    requires { ⌜ from ≤ length (now text) ⌝ }
+    ensures { λ r. ⌜ r ≤ length (now (out .exit)) ⌝ }
+{
+    let mut n = 0;
+    let mut at = from;
+    while at < text.len() {
+        if out.len() <= n {
+            return n;
+        }
+        let found = decimal(text, at);
+        out[n] = found.value;
+        n += 1;
+        at = found.next;
+    }
+    n
+}
+
+// So many bytes of 0 from a place on, as far as there is room: the place behind them.
+fn zeros(out: &mut [u8], from: usize, count: usize) -> usize
+    requires { ⌜ from ≤ length (now out) ⌝ }
+    ensures { λ r. ⌜ r ≤ length (now (out .exit)) ⌝ }
+{
+    let mut at = from;
+    let mut left = count;
+    while left > 0 {
+        if out.len() <= at {
+            return at;
+        }
+        out[at] = 0;
+        at += 1;
+        left -= 1;
+    }
+    at
+}
+
+fn say_number(number: usize) {
+    io::print_decimal(STDOUT_FILENO, number as u64);
+    io::write_all(STDOUT_FILENO, b" ");
+}
+
+fn say_sizes(sizes: array::Sizes) {
+    say_number(sizes.one);
+    say_number(sizes.two);
+    say_number(sizes.three);
+    say_number(sizes.four);
+    say_number(sizes.five);
+    say_number(sizes.six);
+    say_number(sizes.seven);
+    say_number(sizes.eight);
+}
+
+// The numbers of a whole array pack; nothing of any other.
+fn say_read(bytes: &[u8]) {
+    let answer = array::read(bytes);
+    match answer {
+        array::Answer::Array {
+            dims,
+            sizes,
+            element,
+            start,
+        } => {
+            io::write_all(STDOUT_FILENO, b"array ");
+            say_number(dims);
+            say_sizes(sizes);
+            say_number(element);
+            say_number(start);
+        }
+        array::Answer::Unfinished(_) => {}
+        array::Answer::Refused(_) => {}
+    }
+}
+
+fn say_address(bytes: &[u8], indices: &[usize]) {
+    let answer = array::address(bytes, indices);
+    match answer {
+        array::Addressed::Offset(offset) => {
+            io::write_all(STDOUT_FILENO, b"offset ");
+            io::print_decimal(STDOUT_FILENO, offset as u64);
+            io::write_all(STDOUT_FILENO, b"\n");
+        }
+        array::Addressed::Unfinished(missing) => say(Verdict::Unfinished(missing)),
+        array::Addressed::Refused(refusal) => say(Verdict::Refused(refusal)),
+    }
+}
+
+// A row of addressing: the bytes, how many of 0 behind them, the indices.
+fn address_row(text: &[u8], out: &mut [u8])
+    requires { ⌜ 2 ≤ length (now text) ⌝ }
+{
+    let mut numbers = [0usize; 16];
+    let n = decode(text, 2, out);
+    let count = decimals(text, 2 + 2 * n, &mut numbers);
+    let end = zeros(out, n, numbers[0]);
+    io::write_all(STDOUT_FILENO, text);
+    io::write_all(STDOUT_FILENO, b" ");
+    say_read(&out[..end]);
+    if count > 0 {
+        say_address(&out[..end], &numbers[1..count]);
+    }
+}
+
 fn row(text: &[u8], out: &mut [u8]) {
     if text.len() < 2 {
         return;
     }
-    let kind = text[0];
-    let n = decode(text, 2, out);
-    if kind == 115 {
-        beginnings(&out[..n]);
+    if text[0] == 65 {
+        address_row(text, out);
+        return;
     }
-    io::write_all(STDOUT_FILENO, text);
-    io::write_all(STDOUT_FILENO, b" ");
-    say(matrix::verdict(&out[..n]));
+    pack_row(text, out);
 }
 
 // The end of the line that begins at a place.

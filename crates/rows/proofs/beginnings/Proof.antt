@@ -9,10 +9,10 @@ use Rattle.rows.proofs.beginnings.Statement.{statement}
 use Rattle.rows.proofs.beginnings.Tie as tie
 
 abbrev Inv-loop : tie.InvT-loop
-Inv-loop bytes k₀ t3 k = k ≤ length bytes
+Inv-loop kind bytes k₀ t3 k = k ≤ length bytes
 
 abbrev μ-loop : tie.MeasureT-loop
-μ-loop bytes k₀ t3 k = length bytes - k
+μ-loop kind bytes k₀ t3 k = length bytes - k
 
 loop-holds : tie.Need-loop-holds Inv-loop μ-loop
 loop-holds c = search needs
@@ -26,11 +26,11 @@ slice-aggregate-write-all c = search needs
 write-all-requires : tie.Need-write-all-requires Inv-loop μ-loop
 write-all-requires c κs = search needs
 
-slice-aggregate-verdict : tie.Need-slice-aggregate-verdict Inv-loop μ-loop
-slice-aggregate-verdict c = sym (length-take-le _ _ (omega arith))
+slice-aggregate-verdict-on : tie.Need-slice-aggregate-verdict-on Inv-loop μ-loop
+slice-aggregate-verdict-on c = sym (length-take-le _ _ (omega arith))
 
-verdict-requires : tie.Need-verdict-requires Inv-loop μ-loop
-verdict-requires c κs = search needs
+verdict-on-requires : tie.Need-verdict-on-requires Inv-loop μ-loop
+verdict-on-requires c κs = search needs
 
 say-requires : tie.Need-say-requires Inv-loop μ-loop
 say-requires c κs = search needs
@@ -57,8 +57,8 @@ beginnings-spec =
     print-decimal-requires
     slice-aggregate-write-all
     write-all-requires
-    slice-aggregate-verdict
-    verdict-requires
+    slice-aggregate-verdict-on
+    verdict-on-requires
     say-requires
     add-k
     loop-less

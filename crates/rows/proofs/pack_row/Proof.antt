@@ -1,13 +1,10 @@
--- `rows::row` is safe and ends: what was decoded is within the buffer. Assumes nothing.
+-- `rows::pack_row` is safe and ends: what was decoded is within the buffer. Assumes nothing.
 use mathlib.Core.Path.{sym}
 use lib.Seq.{length-take-le}
 use native.Mathlib.Omega.{arith}
 use borrow.Author.Needs.{needs}
-use Rattle.rows.proofs.row.Statement.{statement}
-use Rattle.rows.proofs.row.Tie as tie
-
-returns : tie.Need-returns
-returns c = search needs
+use Rattle.rows.proofs.pack_row.Statement.{statement}
+use Rattle.rows.proofs.pack_row.Tie as tie
 
 shared-slice-read-kind : tie.Need-shared-slice-read-kind
 shared-slice-read-kind c = search needs
@@ -33,14 +30,14 @@ slice-aggregate-write-all c = search needs
 write-all-requires-2 : tie.Need-write-all-requires-2
 write-all-requires-2 c κs = search needs
 
-slice-reshare-prefix-verdict : tie.Need-slice-reshare-prefix-verdict
-slice-reshare-prefix-verdict c = search needs
+slice-reshare-prefix-verdict-on : tie.Need-slice-reshare-prefix-verdict-on
+slice-reshare-prefix-verdict-on c = search needs
 
-slice-aggregate-verdict : tie.Need-slice-aggregate-verdict
-slice-aggregate-verdict c = sym (length-take-le _ _ (omega arith))
+slice-aggregate-verdict-on : tie.Need-slice-aggregate-verdict-on
+slice-aggregate-verdict-on c = sym (length-take-le _ _ (omega arith))
 
-verdict-requires : tie.Need-verdict-requires
-verdict-requires c κs = search needs
+verdict-on-requires : tie.Need-verdict-on-requires
+verdict-on-requires c κs = search needs
 
 say-requires : tie.Need-say-requires
 say-requires c κs = search needs
@@ -48,14 +45,13 @@ say-requires c κs = search needs
 same-length : tie.Need-same-length
 same-length c = search needs
 
-returns-2 : tie.Need-returns-2
-returns-2 c = search needs
+returns : tie.Need-returns
+returns c = search needs
 
-pub row-spec : {M : Type 1} → statement M
-row-spec =
+pub pack-row-spec : {M : Type 1} → statement M
+pack-row-spec =
     tie.close
     (tie.spec
-    returns
     shared-slice-read-kind
     decode-requires
     slice-reshare-prefix-beginnings
@@ -64,9 +60,9 @@ row-spec =
     write-all-requires
     slice-aggregate-write-all
     write-all-requires-2
-    slice-reshare-prefix-verdict
-    slice-aggregate-verdict
-    verdict-requires
+    slice-reshare-prefix-verdict-on
+    slice-aggregate-verdict-on
+    verdict-on-requires
     say-requires
     same-length
-    returns-2)
+    returns)
