@@ -252,8 +252,8 @@ pack-accepted w p =
     (ended-accepted (product (a .sizes)) (octets (a .element) ++ (octets 1 ++ a .body)) (product-positive (a .sizes) (g .size-least))
     (record { element-size = a .element; array = a .body; within = g .bytes-most; counted = g .body-count; bytes = g .body-bytes; parts = refl })))
 
-spelling : (w rest sizes behind t : List ℕ) (n : ℕ) → w ≡ octets n ++ rest → n ≡ length sizes → rest ≡ numbers sizes ++ behind → behind ≡ t → w ≡ octets (length sizes) ++ (numbers sizes ++ t)
-spelling w rest sizes behind t n e l s b = e ∙ ap₂ (λ (k : ℕ) (x : List ℕ). octets k ++ x) l (s ∙ ap (λ (x : List ℕ). numbers sizes ++ x) b)
+spelling : (w rest sizes behind t : List ℕ) (n : ℕ) → w ≡ octets n ++ rest → n ≡ length sizes → rest ≡ numbers sizes ++ behind → behind ≡ t → octets (length sizes) ++ (numbers sizes ++ t) ≡ w
+spelling w rest sizes behind t n e l s b = sym (e ∙ ap₂ (λ (k : ℕ) (x : List ℕ). octets k ++ x) l (s ∙ ap (λ (x : List ℕ). numbers sizes ++ x) b))
 
 pub accepted-pack : (w : List ℕ) → Accepts move (number dims 0) w → ArrayPack w
 accepted-pack w a =
@@ -273,5 +273,5 @@ accepted-pack w a =
         body-count = e .counted;
         body-bytes = e .bytes;
       };
-      spelled = sym (spelling w (d .rest) (s .sizes) (s .rest) (octets (e .element-size) ++ (octets 1 ++ e .array)) (d .value) (first-parts d) n (s .parts) (e .parts));
+      spelled = spelling w (d .rest) (s .sizes) (s .rest) (octets (e .element-size) ++ (octets 1 ++ e .array)) (d .value) (first-parts d) n (s .parts) (e .parts);
     }
