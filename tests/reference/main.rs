@@ -6,6 +6,7 @@
 //     reference report             the report on lines of frames
 //     reference rows               the verdicts on rows of pack bytes
 //     reference make-rows          the rows that the project runs
+//     reference make-lines         lines of frames at the edges of every rule
 //     reference corpus SEED COUNT  lines of frames, good and bad, from a seed
 //     reference tally              how often each word and reason occurs in a report
 //     reference check SEED COUNT   compares the verdicts with a search among all endings
@@ -15,6 +16,7 @@ mod array;
 mod check;
 mod corpus;
 mod frame;
+mod lines;
 mod matrix;
 mod rows;
 mod verdict;
@@ -54,7 +56,7 @@ fn tally(input: &mut dyn BufRead, output: &mut dyn Write) -> io::Result<()> {
 
 fn usage() -> ! {
     eprintln!(
-        "usage: reference report | rows | make-rows | corpus SEED COUNT | tally | check SEED COUNT"
+        "usage: reference report | rows | make-rows | make-lines | corpus SEED COUNT | tally | check SEED COUNT"
     );
     std::process::exit(2);
 }
@@ -73,6 +75,7 @@ fn main() {
         Some("report") => frame::report(&mut input, &mut output),
         Some("rows") => rows::run(&mut input, &mut output),
         Some("make-rows") => rows::make(&mut output),
+        Some("make-lines") => lines::make(&mut output),
         Some("corpus") => corpus::print(number(1), number(2), &mut output),
         Some("tally") => tally(&mut input, &mut output),
         Some("check") => check::run(number(1), number(2), &mut output),

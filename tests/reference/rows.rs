@@ -139,7 +139,7 @@ const TABLE: &[(char, &str)] = &[
 ];
 
 /// The formats of values that are there: mapped or not, with the length.
-fn formats() -> Vec<(bool, usize)> {
+pub fn formats() -> Vec<(bool, usize)> {
     let mut list = Vec::new();
     for mapped in [true, false] {
         for &length in allowed_lengths(mapped) {
@@ -177,7 +177,12 @@ fn some_word(i: usize, length: usize, mapped: bool, role: Role) -> Vec<u8> {
 }
 
 /// A whole matrix pack with some words. `vector` is there for a sparse one.
-fn whole_matrix(n: usize, c: (bool, usize), s: (bool, usize), vector: Option<&[u8]>) -> Vec<u8> {
+pub fn whole_matrix(
+    n: usize,
+    c: (bool, usize),
+    s: (bool, usize),
+    vector: Option<&[u8]>,
+) -> Vec<u8> {
     let mut bytes = vec![
         n as u8,
         control_1(vector.is_some(), c.0, c.1),
@@ -200,7 +205,7 @@ fn whole_matrix(n: usize, c: (bool, usize), s: (bool, usize), vector: Option<&[u
 }
 
 /// A bit vector for N by N with these bits.
-fn vector(n: usize, ones: &[usize]) -> Vec<u8> {
+pub fn vector(n: usize, ones: &[usize]) -> Vec<u8> {
     let mut bytes = vec![0u8; vector_length(n)];
     for &i in ones {
         bytes[i / 8] |= 128 >> (i % 8);
@@ -488,7 +493,7 @@ fn matrix_ends_and_beginnings(rows: &mut Rows) {
 }
 
 /// The header of an array pack, up to and with the sizes.
-fn sizes_header(sizes: &[usize]) -> Vec<u8> {
+pub fn sizes_header(sizes: &[usize]) -> Vec<u8> {
     let mut bytes = octets(sizes.len() as u64);
     for &size in sizes {
         bytes.extend(octets(size as u64));
