@@ -9,6 +9,7 @@ pub mod Accepting
 pub mod Reasons
 pub mod Verdicts
 pub mod Decoding
+pub mod Complete
 pub mod Counts
 pub mod Judgements
 pub mod Heading

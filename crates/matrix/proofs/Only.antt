@@ -1,13 +1,18 @@
--- The contracts of `verdict` and `read`, as the source states them, admit one answer each. Assumes nothing.
+-- The contract of each public function, as the source states it, admits one answer. Assumes nothing.
 use mathlib.Core.Path.{_∙_, sym}
 use Rattle.verdict.proofs.OneAnswer.{OneAnswer}
 use Rattle.matrix.proofs.verdict.Kinds as verdict
 use Rattle.matrix.proofs.verdict.Reads as verdict-reads
 use Rattle.matrix.proofs.read.Kinds as read
 use Rattle.matrix.proofs.read.Reads as read-reads
+use Rattle.matrix.proofs.walk.found_in.Kinds as found-in
+use Rattle.matrix.proofs.walk.found_in.Reads as found-in-reads
 
 pub verdict-only : OneAnswer verdict.ps verdict.r verdict-reads.Post
 verdict-only κs a x y s t p q = p ∙ sym q
 
 pub read-only : OneAnswer read.ps read.r read-reads.Post
 read-only κs a x y s t p q = p ∙ sym q
+
+pub found-in-only : OneAnswer found-in.ps found-in.r found-in-reads.Post
+found-in-only κs a x y s t p q = p ∙ sym q

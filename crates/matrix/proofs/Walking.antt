@@ -1,10 +1,11 @@
 -- What the parts of a walk come to: the verdict on the whole, or the whole pack. Assumes nothing.
 use Prim.Native.Nat.{ℕ, _+_, _*_}
-use mathlib.Core.Path.{_≡_, refl, sym, ap, _∙_}
+use mathlib.Core.Path.{_≡_, refl, sym, ap, ap₂, _∙_}
 use mathlib.Core.List.{List, [], _∷_}
 use native.Mathlib.Omega.{arith}
-use lib.ListN.{length}
+use lib.ListN.{length, take, drop}
 use Rattle.verdict.specs.declared.Verdict.{Verdict}
+use Rattle.verdict.specs.declared.Verdict.the-variants.{Complete}
 use Rattle.verdict.specs.Machine.{led}
 use Rattle.word.specs.declared.rules.Rule.{Rule}
 use Rattle.word.specs.Rules.{deviationRule, coefficientRule, ruledBy}
@@ -12,11 +13,13 @@ use Rattle.word.proofs.Certain.{deviation-length, coefficient-length}
 use Rattle.matrix.specs.declared.Fields.{Fields}
 use Rattle.matrix.specs.declared.Answer.the-variants.{Matrix}
 use Rattle.matrix.specs.declared.walk.Found.{Found}
+use Rattle.matrix.specs.declared.walk.Walked.{Walked}
+use Rattle.matrix.specs.declared.walk.Walked.the-variants.{Whole, Unfinished, Refused}
 use Rattle.matrix.specs.Reading.{readFor, readOf}
-use Rattle.matrix.specs.Meaning.{LawfulFields}
-use Rattle.matrix.specs.Spelling.{vectorBytes}
+use Rattle.matrix.specs.Meaning.{sum, LawfulFields}
+use Rattle.matrix.specs.Spelling.{vectorBytes, fieldsOf, marksOf}
 use Rattle.matrix.specs.Machine.{Run, enter, runBytes, verdictOf, verdictBehind}
-use Rattle.matrix.specs.Walk.{ruleIn, runOf, Headed, SentBy, PassedTo, Deviated, FoundIn}
+use Rattle.matrix.specs.Walk.{ruleIn, runOf, Headed, SentBy, PassedTo, Deviated, FoundIn, WalkFrom, walkedFor, walkedOf}
 
 -- the rules that lawful fields choose
 module _ (f : Fields) (g : LawfulFields f) where
@@ -77,3 +80,18 @@ module _ (bytes : List ℕ) (f : Fields) (sent words : ℕ) (rule : Rule) where
 -- a whole pack is read as its fields and its length
 pub found-read : (bytes : List ℕ) (found : Found) → FoundIn bytes found → Matrix (found .fields) (found .length) ≡ readOf bytes
 found-read bytes found h = ap (λ (f : Fields). Matrix f (found .length)) (h .fields .same) ∙ sym (ap (readFor bytes) (h .said))
+
+-- what was found of a whole pack is what its bytes have
+found-same : (bytes : List ℕ) (found : Found) → FoundIn bytes found → Whole found ≡ walkedFor bytes (Complete (found .length))
+found-same bytes found x =
+    let e = x .fields .same in
+    let w : found .words ≡ 3 + vectorBytes (fieldsOf bytes) = x .start ∙ ap (λ (f : Fields). 3 + vectorBytes f) e in
+    let s : found .sent ≡ sum (marksOf (fieldsOf bytes) (take (vectorBytes (fieldsOf bytes)) (drop 3 bytes))) = x .vector .marked ∙ ap (λ (f : Fields). sum (marksOf f (take (vectorBytes f) (drop 3 bytes)))) e in
+    ap (λ (f : Fields). Whole (record { fields = f; words = found .words; sent = found .sent; length = found .length })) e
+    ∙ ap₂ (λ (p k : ℕ). Whole (record { fields = fieldsOf bytes; words = p; sent = k; length = found .length })) w s
+
+-- the walk's contract admits one answer
+pub walked-one : (bytes : List ℕ) (walked : Walked) → WalkFrom bytes walked → walked ≡ walkedOf bytes
+walked-one bytes (Whole found) x = found-same bytes found x ∙ sym (ap (walkedFor bytes) (x .said))
+walked-one bytes (Unfinished missing) x = sym (ap (walkedFor bytes) x)
+walked-one bytes (Refused refusal) x = sym (ap (walkedFor bytes) x)

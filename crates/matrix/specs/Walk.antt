@@ -134,3 +134,14 @@ abbrev pub WalkFrom : List ℕ → Walked → Type 0
 WalkFrom bytes (Whole found) = FoundIn bytes found
 WalkFrom bytes (WalkedUnfinished missing) = verdictOf bytes ≡ Unfinished missing
 WalkFrom bytes (WalkedRefused refusal) = verdictOf bytes ≡ Refused refusal
+
+-- what a walk answers: of a complete pack its fields, the place of its first word, how many coefficients are sent and its length; else the verdict
+abbrev pub walkedFor : List ℕ → Verdict → Walked
+walkedFor bytes (Complete n) =
+    let f = fieldsOf bytes in
+    Whole (record { fields = f; words = 3 + vectorBytes f; sent = sum (marksOf f (take (vectorBytes f) (drop 3 bytes))); length = n })
+walkedFor bytes (Unfinished missing) = WalkedUnfinished missing
+walkedFor bytes (Refused refusal) = WalkedRefused refusal
+
+abbrev pub walkedOf : List ℕ → Walked
+walkedOf bytes = walkedFor bytes (verdictOf bytes)

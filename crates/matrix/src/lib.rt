@@ -10,7 +10,7 @@ mod control;
 mod header;
 mod judge;
 mod vector;
-mod walk;
+pub mod walk;
 mod words;
 
 // The size N and the five control fields, by their names in the standard. `cf` and `sf` are true for mapped words.

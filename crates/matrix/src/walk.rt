@@ -1,7 +1,7 @@
 // One pass over a matrix pack: what was found of a whole one, or why there is none.
 ghost use mathlib.Core.Path.{_≡_};
 ghost use Rattle.matrix.specs.Machine.{verdictOf};
-ghost use Rattle.matrix.specs.Walk.{ruleIn, Headed, Deviated, SentBy, WalkFrom};
+ghost use Rattle.matrix.specs.Walk.{ruleIn, Headed, Deviated, SentBy, WalkFrom, walkedOf};
 use crate::Fields;
 use crate::control::vector_bytes;
 use crate::header::Head;
@@ -17,14 +17,14 @@ use word::rules::coefficient_rule;
 use word::rules::deviation_rule;
 
 // A whole pack: its fields, the place of its first word, how many coefficients are sent, its length.
-pub(crate) struct Found {
+pub struct Found {
     pub fields: Fields,
     pub words: usize,
     pub sent: usize,
     pub length: usize,
 }
 
-pub(crate) enum Walked {
+pub enum Walked {
     Whole(Found),
     Unfinished(usize),
     Refused(Refusal),
@@ -100,4 +100,11 @@ pub(crate) fn walk(bytes: &[u8]) -> Walked
         Head::Unfinished(missing) => Walked::Unfinished(missing),
         Head::Refused(refusal) => Walked::Refused(refusal),
     }
+}
+
+// What a walk over the bytes finds, for callers that read the words themselves.
+pub fn found_in(bytes: &[u8]) -> Walked
+    ensures { λ r. ⌜ r ≡ walkedOf (now (bytes .entry)) ⌝ }
+{
+    walk(bytes)
 }

@@ -1,0 +1,20 @@
+-- What a complete verdict gives: the bytes have a lawful meaning, and begin with its bytes. Assumes nothing.
+use Prim.Native.Nat.{ℕ}
+use mathlib.Core.Path.{_≡_, subst}
+use mathlib.Core.List.{List, _++_}
+use lib.ListN.{take, drop, take-append-drop}
+use Rattle.verdict.specs.declared.Verdict.{Verdict}
+use Rattle.verdict.specs.declared.Verdict.the-variants.{Complete}
+use Rattle.verdict.specs.Says.{Bytes, Says}
+use Rattle.matrix.specs.Meaning.{Lawful}
+use Rattle.matrix.specs.Spelling.{bytesOf, meaningOf}
+use Rattle.matrix.specs.Pack.{MatrixPack}
+use Rattle.matrix.specs.Table.{Why}
+use Rattle.matrix.specs.Machine.{verdictOf}
+use Rattle.matrix.proofs.Verdicts.{matrix-said}
+use Rattle.matrix.proofs.Decoding.{pack-meaning}
+
+pub complete-meaning : (bytes : List ℕ) → Bytes bytes → (n : ℕ) → verdictOf bytes ≡ Complete n → Lawful (meaningOf bytes) × (bytesOf (meaningOf bytes) ≡ take n bytes)
+complete-meaning bytes b n e =
+    let said : Says MatrixPack Why bytes (Complete n) = subst (Says MatrixPack Why bytes) e (matrix-said bytes b) in
+    subst (λ (w : List ℕ). Lawful (meaningOf w) × (bytesOf (meaningOf w) ≡ take n bytes)) (take-append-drop n bytes) (pack-meaning (take n bytes) (drop n bytes) (said .pack))

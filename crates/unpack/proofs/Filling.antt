@@ -1,0 +1,100 @@
+-- What the loops that fill the lent lists read in a whole pack: each value at its place. Assumes nothing.
+use Prim.Native.Nat.{ℕ, _+_, _*_, _≤_, _<_}
+use mathlib.Core.Path.{_≡_, _∙_, ap, sym, subst}
+use mathlib.Core.Bool.{cond}
+use mathlib.Core.List.{List}
+use native.Mathlib.Nat.{mul-le-mul-right, suc-mul}
+use native.Mathlib.Numerals.{add-one}
+use native.Mathlib.Omega.{arith}
+use lib.Dec.{eqb}
+use lib.ListN.{length, take, getD}
+use Rattle.word.specs.Bytes.{wordAt}
+use Rattle.matrix.specs.declared.Fields.{Fields}
+use Rattle.matrix.specs.declared.walk.Found.{Found}
+use Rattle.matrix.specs.Meaning.{pairs, sum, nought}
+use Rattle.matrix.specs.Spelling.{vectorBytes, meaningOf}
+use Rattle.matrix.proofs.ControlBytes.{clen-small, slen-small}
+use Rattle.matrix.proofs.Pairs.{pairs-most}
+use Rattle.unpack.specs.Found.{Whole, coefficientAt}
+use Rattle.unpack.proofs.Sums.{sum-more, sum-first-most}
+use Rattle.unpack.proofs.Values.{deviation-at, coefficient-at}
+
+-- how large the fields of a lawful pack are
+pub record Small (f : Fields) : Type 0 where
+  pub size-least : 1 ≤ f .n
+  pub size-most : f .n ≤ 64
+  pub pairs-few : pairs (f .n) ≤ 2016
+  pub clen-few : f .clen ≤ 8
+  pub slen-few : f .slen ≤ 8
+
+module _ (bytes : List ℕ) (found : Found) (whole : Whole bytes found) where
+  abbrev f : Fields
+  f = found .fields
+
+  pub small : Small f
+  small =
+      let h = meaningOf bytes .fields in
+      let g = whole .lawful .fields in
+      subst Small (sym (whole .fields))
+      (record { size-least = g .first .size-least; size-most = g .first .size-most; pairs-few = pairs-most (h .n) (g .first .size-most); clen-few = clen-small h (g .first); slen-few = slen-small h g })
+
+  pub deviation-count : length (meaningOf bytes .deviations) ≡ f .n
+  deviation-count = whole .lawful .values .deviation-count ∙ ap (λ (g : Fields). g .n) (sym (whole .fields))
+
+  pub coefficient-count : length (meaningOf bytes .coefficients) ≡ pairs (f .n)
+  coefficient-count = whole .lawful .values .coefficient-count ∙ ap (λ (g : Fields). pairs (g .n)) (sym (whole .fields))
+
+  pub mark-count : length (meaningOf bytes .marks) ≡ pairs (f .n)
+  mark-count = whole .lawful .values .mark-count ∙ ap (λ (g : Fields). pairs (g .n)) (sym (whole .fields))
+
+  pub vector-within : 3 + vectorBytes f ≤ length bytes
+  vector-within = subst (λ (g : Fields). 3 + vectorBytes g ≤ length bytes) (sym (whole .fields)) (omega (arith, whole .start, whole .within))
+
+  -- ---- deviations
+
+  -- a deviation's word is within the bytes
+  pub deviation-within : (i : ℕ) → i < f .n → found .words + i * f .slen + f .slen ≤ length bytes
+  deviation-within =
+      subst (λ (g : Fields). (i : ℕ) → i < g .n → found .words + i * g .slen + g .slen ≤ length bytes) (sym (whole .fields))
+      (λ i h. let g = meaningOf bytes .fields in omega (arith, whole .within, mul-le-mul-right (g .slen) h, suc-mul i (g .slen)))
+
+  deviation-here : (i : ℕ) → i < f .n → wordAt bytes (found .words + i * f .slen) (f .slen) ≡ getD (meaningOf bytes .deviations) i 0
+  deviation-here =
+      subst (λ (g : Fields). (i : ℕ) → i < g .n → wordAt bytes (found .words + i * g .slen) (g .slen) ≡ getD (meaningOf bytes .deviations) i 0) (sym (whole .fields))
+      (λ i h. rw (whole .start) (sym (deviation-at bytes i h)))
+
+  pub deviation-is : (i place word : ℕ) → i < f .n → place ≡ found .words + i * f .slen → word ≡ wordAt bytes place (f .slen) → word ≡ getD (meaningOf bytes .deviations) i 0
+  deviation-is i place word h p e = e ∙ ap (λ (k : ℕ). wordAt bytes k (f .slen)) p ∙ deviation-here i h
+
+  -- ---- coefficients
+
+  -- the place of a coefficient, from the first one's
+  pub coefficient-place : (pair : ℕ) → found .words + f .n * f .slen + sum (take pair (meaningOf bytes .marks)) * f .clen ≡ coefficientAt (meaningOf bytes) found pair
+  coefficient-place pair =
+      subst (λ (g : Fields). found .words + g .n * g .slen + sum (take pair (meaningOf bytes .marks)) * g .clen ≡ coefficientAt (meaningOf bytes) found pair) (sym (whole .fields)) (omega arith)
+
+  coefficient-here : (pair : ℕ) → pair < pairs (f .n)
+      → cond (eqb (getD (meaningOf bytes .marks) pair 0) 0) (nought f) (wordAt bytes (coefficientAt (meaningOf bytes) found pair) (f .clen)) ≡ getD (meaningOf bytes .coefficients) pair 0
+  coefficient-here =
+      subst
+      (λ (g : Fields). (pair : ℕ) → pair < pairs (g .n)
+      → cond (eqb (getD (meaningOf bytes .marks) pair 0) 0) (nought g) (wordAt bytes (coefficientAt (meaningOf bytes) found pair) (g .clen)) ≡ getD (meaningOf bytes .coefficients) pair 0)
+      (sym (whole .fields))
+      (λ pair h. rw (whole .start) (sym (coefficient-at bytes pair (rw (whole .lawful .values .mark-count) h))))
+
+  -- all the words are within the bytes
+  pub words-within : found .words + f .n * f .slen + sum (meaningOf bytes .marks) * f .clen ≤ length bytes
+  words-within = subst (λ (g : Fields). found .words + g .n * g .slen + sum (meaningOf bytes .marks) * g .clen ≤ length bytes) (sym (whole .fields)) (omega (arith, whole .within))
+
+  module _ (pair place mark : ℕ) (h : pair < pairs (f .n)) (p : place ≡ coefficientAt (meaningOf bytes) found pair) (e : mark ≡ getD (meaningOf bytes .marks) pair 0) where
+    -- the next place is behind the word that is sent
+    pub coefficient-next : sum (take (pair + 1) (meaningOf bytes .marks)) * f .clen ≡ sum (take pair (meaningOf bytes .marks)) * f .clen + mark * f .clen
+    coefficient-next = rw (add-one, sum-more (meaningOf bytes .marks) pair (omega (arith, mark-count)), ← e) (omega arith)
+
+    -- its word is within the bytes
+    pub coefficient-within : place + mark * f .clen ≤ length bytes
+    coefficient-within =
+        omega (arith, coefficient-place pair, coefficient-next, mul-le-mul-right (f .clen) (sum-first-most (meaningOf bytes .marks) (pair + 1)), words-within)
+
+    pub coefficient-is : (none word : ℕ) → none ≡ nought f → word ≡ cond (eqb mark 0) none (wordAt bytes place (f .clen)) → word ≡ getD (meaningOf bytes .coefficients) pair 0
+    coefficient-is none word n w = w ∙ rw (n, e, p) (coefficient-here pair h)

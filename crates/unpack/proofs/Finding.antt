@@ -1,0 +1,71 @@
+-- What a walk that finds a whole pack says of its bytes, and what unpacking and expanding answer behind each walk. Assumes nothing.
+use Prim.Native.Nat.{ℕ, _+_}
+use mathlib.Core.Path.{_≡_, refl, _∙_, ap, sym, subst}
+use mathlib.Core.List.{List}
+use native.Mathlib.Omega.{arith}
+use lib.ListN.{length, take, drop, length-take}
+use Rattle.verdict.specs.declared.Refusal.{Refusal}
+use Rattle.verdict.specs.declared.Verdict.{Verdict}
+use Rattle.verdict.specs.declared.Verdict.the-variants.{Complete, Unfinished, Refused}
+use Rattle.verdict.specs.Says.{Bytes}
+use Rattle.matrix.specs.declared.walk.Found.{Found}
+use Rattle.matrix.specs.declared.walk.Walked.{Walked}
+use Rattle.matrix.specs.declared.walk.Walked.the-variants.{Whole as WalkedWhole, Unfinished as WalkedUnfinished, Refused as WalkedRefused}
+use Rattle.matrix.specs.Meaning.{sum}
+use Rattle.matrix.specs.Spelling.{vectorBytes, marksOf, fieldsOf, meaningOf}
+use Rattle.matrix.specs.Machine.{verdictOf}
+use Rattle.matrix.specs.Walk.{walkedFor, walkedOf}
+use Rattle.matrix.proofs.Complete.{complete-meaning}
+use Rattle.matrix.proofs.Decoding.{pack-length}
+use Rattle.unpack.specs.Unpacking.{UnpackedBy, ExpandedBy}
+use Rattle.unpack.specs.Found.{Whole}
+
+-- what a walk finds of a complete pack
+abbrev foundOf : List ℕ → ℕ → Found
+foundOf bytes n =
+    let f = fieldsOf bytes in
+    record { fields = f; words = 3 + vectorBytes f; sent = sum (marksOf f (take (vectorBytes f) (drop 3 bytes))); length = n }
+
+complete-whole : (bytes : List ℕ) → Bytes bytes → (n : ℕ) → verdictOf bytes ≡ Complete n → Whole bytes (foundOf bytes n)
+complete-whole bytes b n e =
+    let x = complete-meaning bytes b n e in
+    record { lawful = x .0; fields = refl; start = refl; within = omega (arith, pack-length (meaningOf bytes), ap length (x .1), length-take n bytes) }
+
+-- the verdict that a walk's answer stands for
+abbrev pub verdictIn : Walked → Verdict
+verdictIn (WalkedWhole found) = Complete (found .length)
+verdictIn (WalkedUnfinished missing) = Unfinished missing
+verdictIn (WalkedRefused refusal) = Refused refusal
+
+verdict-back : (bytes : List ℕ) (v : Verdict) → verdictIn (walkedFor bytes v) ≡ v
+verdict-back bytes (Complete n) = refl
+verdict-back bytes (Unfinished missing) = refl
+verdict-back bytes (Refused refusal) = refl
+
+pub walk-said : (bytes : List ℕ) (walked : Walked) → walked ≡ walkedOf bytes → verdictOf bytes ≡ verdictIn walked
+walk-said bytes walked e = sym (ap verdictIn e ∙ verdict-back bytes (verdictOf bytes))
+
+-- a whole pack that was found stands in the bytes
+pub found-whole : (bytes : List ℕ) → Bytes bytes → (found : Found) → WalkedWhole found ≡ walkedOf bytes → Whole bytes found
+found-whole bytes b found w =
+    let e = walk-said bytes (WalkedWhole found) w in
+    let same : found ≡ foundOf bytes (found .length) = inside (w ∙ ap (walkedFor bytes) e) in
+    subst (Whole bytes) (sym same) (complete-whole bytes b (found .length) e)
+  where
+    inside : {x y : Found} → WalkedWhole x ≡ WalkedWhole y → x ≡ y
+    inside e = cc
+
+-- where there is no whole pack, the verdict is answered and the lists stay
+module _ (bytes deviations coefficients marks : List ℕ) where
+  pub unpacked-unfinished : (missing : ℕ) → WalkedUnfinished missing ≡ walkedOf bytes → UnpackedBy bytes deviations coefficients marks (Unfinished missing) deviations coefficients marks
+  unpacked-unfinished missing w = rw (walk-said bytes (WalkedUnfinished missing) w) (record { said = refl; left-deviations = refl; left-coefficients = refl; left-marks = refl })
+
+  pub unpacked-refused : (refusal : Refusal) → WalkedRefused refusal ≡ walkedOf bytes → UnpackedBy bytes deviations coefficients marks (Refused refusal) deviations coefficients marks
+  unpacked-refused refusal w = rw (walk-said bytes (WalkedRefused refusal) w) (record { said = refl; left-deviations = refl; left-coefficients = refl; left-marks = refl })
+
+module _ (bytes words marks : List ℕ) where
+  pub expanded-unfinished : (missing : ℕ) → WalkedUnfinished missing ≡ walkedOf bytes → ExpandedBy bytes words marks (Unfinished missing) words marks
+  expanded-unfinished missing w = rw (walk-said bytes (WalkedUnfinished missing) w) (record { said = refl; left-words = refl; left-marks = refl })
+
+  pub expanded-refused : (refusal : Refusal) → WalkedRefused refusal ≡ walkedOf bytes → ExpandedBy bytes words marks (Refused refusal) words marks
+  expanded-refused refusal w = rw (walk-said bytes (WalkedRefused refusal) w) (record { said = refl; left-words = refl; left-marks = refl })

@@ -1,0 +1,26 @@
+-- Sums of the first entries of a list. Assumes nothing.
+use Prim.Native.Nat.{ℕ, zero, suc, _+_, _≤_, _<_}
+use mathlib.Core.Path.{_≡_, refl}
+use mathlib.Core.List.{List, [], _∷_}
+use native.Mathlib.Omega.{arith}
+use lib.ListN.{length, take, getD, replicate}
+use Rattle.matrix.specs.Meaning.{sum}
+
+pub sum-more : (xs : List ℕ) (i : ℕ) → i < length xs → sum (take (suc i) xs) ≡ sum (take i xs) + getD xs i 0
+unfolding sum
+sum-more [] i h = absurd (omega arith)
+sum-more (x ∷ xs) zero h = omega arith
+sum-more (x ∷ xs) (suc i) h = omega (arith, sum-more xs i (omega arith))
+
+pub sum-first-most : (xs : List ℕ) (i : ℕ) → sum (take i xs) ≤ sum xs
+unfolding sum
+sum-first-most [] zero = omega arith
+sum-first-most [] (suc i) = omega arith
+sum-first-most (x ∷ xs) zero = omega arith
+sum-first-most (x ∷ xs) (suc i) = omega (arith, sum-first-most xs i)
+
+pub sum-ones : (n i : ℕ) → i ≤ n → sum (take i (replicate n 1)) ≡ i
+unfolding sum
+sum-ones n zero h = refl
+sum-ones zero (suc i) h = absurd (omega arith)
+sum-ones (suc n) (suc i) h = omega (arith, sum-ones n i (omega arith))

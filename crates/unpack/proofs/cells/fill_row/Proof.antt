@@ -1,0 +1,237 @@
+-- `unpack::cells::fill_row` meets its contract. The loop's invariant: the pairs of the row up to `column` are filled in. Assumes nothing.
+use Prim.Native.Nat.{ℕ, _+_, _-_, _*_, _≤_, _<_}
+use mathlib.Core.Path.{_≡_, refl, _∙_, ap, sym, subst}
+use mathlib.Core.List.{List}
+use native.Mathlib.Omega.{arith}
+use denote.Ref.{now}
+use lib.ListN.{length as size, take, getD, length-set}
+use Rattle.matrix.specs.declared.Fields.{Fields}
+use Rattle.matrix.specs.declared.walk.Found.{Found}
+use Rattle.matrix.specs.Meaning.{Matrix, sum, pairs, nought}
+use Rattle.matrix.specs.Order.{pairAt}
+use Rattle.matrix.specs.Spelling.{meaningOf}
+use Rattle.matrix.proofs.Order.{place-below}
+use Rattle.unpack.specs.Found.{coefficientAt}
+use Rattle.unpack.specs.Cells.{Grid, ofRow}
+use Rattle.unpack.proofs.Filling.{Small, small, vector-within, coefficient-place, coefficient-next, coefficient-within, coefficient-is}
+use Rattle.unpack.proofs.Squares.{cell-small}
+use Rattle.unpack.proofs.Rows.{next-pair, next-row, cell-within, row-none, grid-pair}
+use borrow.Author.Needs.{needs}
+use Rattle.unpack.proofs.cells.fill_row.Statement.{statement}
+use Rattle.unpack.proofs.cells.fill_row.Tie as tie
+
+-- the pairs of the row before the column are filled in, and the next coefficient is as many bytes on as they have
+record UpTo (m : Matrix) (row n length : ℕ) (words₀ marks₀ : List ℕ) (place₀ pair₀ : ℕ) (words marks : List ℕ) (place pair column : ℕ) : Type 0 where
+  begun : row < column
+  most : column ≤ n
+  pair-is : pair ≡ pairAt n row column
+  moved : place + sum (take pair₀ (m .marks)) * length ≡ place₀ + sum (take pair (m .marks)) * length
+  filled : Grid m (ofRow row column) words₀ marks₀ words marks
+
+abbrev Inv-loop : tie.InvT-loop
+Inv-loop bytes none row words₀ marks₀ f n length place₀ pair₀ column₀ words marks place pair column =
+    UpTo (meaningOf bytes) row n length words₀ marks₀ place₀ pair₀ words marks place pair column
+
+abbrev μ-loop : tie.MeasureT-loop
+μ-loop bytes none row words₀ marks₀ f n length place₀ pair₀ column₀ words marks place pair column =
+    n - column
+
+module _ (s : tie.Start Inv-loop μ-loop) where
+  abbrev bytes : List ℕ
+  bytes = now (s .args .bytes)
+
+  abbrev found : Found
+  found = s .args .found
+
+  abbrev n : ℕ
+  n = found .fields .n
+
+  bounds : Small (found .fields)
+  bounds = small bytes found (s .pre .whole)
+
+  same : n ≡ meaningOf bytes .fields .n
+  same = ap (λ (f : Fields). f .n) (s .pre .whole .fields)
+
+  row-below : s .args .row < n
+  row-below = omega (arith, s .pre .within, same)
+
+-- where the loop stands
+module _ (c : tie.At-loop Inv-loop μ-loop) where
+  abbrev start : tie.Start Inv-loop μ-loop
+  start = c .before .before .before .before .before
+
+  abbrev m : Matrix
+  m = meaningOf (bytes start)
+
+  abbrev row : ℕ
+  row = start .args .row
+
+  abbrev column : ℕ
+  column = c .loop .column
+
+  place-is : c .loop .place ≡ coefficientAt m (found start) (c .loop .pair)
+  place-is =
+      let s = start in
+      let w = s .pre .whole in
+      let first : s .args .next .place ≡ coefficientAt m (found start) (s .args .next .pair) = s .pre .at .place ∙ ap (coefficientAt m (found start)) (sym (s .pre .at .pair)) in
+      omega (arith, c .loop .inv .moved, coefficient-place (bytes start) (found start) w (s .args .next .pair), coefficient-place (bytes start) (found start) w (c .loop .pair))
+
+-- in the loop, the column is one of the square's
+module _ (c : tie.In-loop Inv-loop μ-loop) where
+  abbrev here : tie.At-loop Inv-loop μ-loop
+  here = c .before
+
+  -- the pair is one of the pack's
+  pair-below : here .loop .pair < pairs (n (start here))
+  pair-below = omega (arith, here .loop .inv .pair-is, place-below (n (start here)) (row here) (column here) (here .loop .inv .begun) (c .loop-test .taken))
+
+  upper-few : row here * n (start here) + column here < 4096
+  upper-few = cell-small (n (start here)) (row here) (column here) (bounds (start here) .size-most) (row-below (start here)) (c .loop-test .taken)
+
+  lower-few : column here * n (start here) + row here < 4096
+  lower-few = cell-small (n (start here)) (column here) (row here) (bounds (start here) .size-most) (c .loop-test .taken) (row-below (start here))
+
+  upper-there : (row here * n (start here) + column here < size (here .loop .words)) × (row here * n (start here) + column here < size (here .loop .marks))
+  upper-there = cell-within (m here) (n (start here)) (same (start here)) (start here .pre .room) (here .loop .inv .filled) (row here) (column here) (row-below (start here)) (c .loop-test .taken)
+
+  lower-there : (column here * n (start here) + row here < size (here .loop .words)) × (column here * n (start here) + row here < size (here .loop .marks))
+  lower-there = cell-within (m here) (n (start here)) (same (start here)) (start here .pre .room) (here .loop .inv .filled) (column here) (row here) (c .loop-test .taken) (row-below (start here))
+
+-- the word that is sent is there
+within : (c : tie.After-mark-at Inv-loop μ-loop) → let g = start (c .before .before) in c .before .before .loop .place + c .mark-at .result * found g .fields .clen ≤ size (bytes g)
+within c = let l = c .before .before in
+    let g = start l in
+    coefficient-within (bytes g) (found g) (g .pre .whole) (l .loop .pair) (l .loop .place) (c .mark-at .result) (pair-below (c .before)) (place-is l) (c .mark-at .ensures)
+
+add-column : tie.Need-add-column Inv-loop μ-loop
+add-column c = let g = c .before .before .before .before in omega (arith, row-below g, bounds g .size-most)
+
+loop-holds : tie.Need-loop-holds Inv-loop μ-loop
+loop-holds c =
+    let g = c .before .before .before .before in
+    record {
+      begun = omega arith;
+      most = omega (arith, row-below g);
+      pair-is = g .pre .at .pair ∙ ap (λ (k : ℕ). pairAt k (g .args .row) (g .args .row + 1)) (sym (same g));
+      moved = refl;
+      filled = row-none (meaningOf (bytes g)) (now (g .args .words)) (now (g .args .marks)) (g .args .row);
+    }
+
+mark-at-requires : tie.Need-mark-at-requires Inv-loop μ-loop
+mark-at-requires c κs = let g = start (c .before) in (g .pre .whole .fields, (pair-below c, vector-within (bytes g) (found g) (g .pre .whole)))
+
+word-or-requires : tie.Need-word-or-requires Inv-loop μ-loop
+word-or-requires c κs = (bounds (start (c .before .before)) .clen-few, within c)
+
+mul-upper : tie.Need-mul-upper Inv-loop μ-loop
+mul-upper c = omega (arith, upper-few (c .before .before))
+
+add-upper : tie.Need-add-upper Inv-loop μ-loop
+add-upper c = omega (arith, upper-few (c .before .before))
+
+mul-lower : tie.Need-mul-lower Inv-loop μ-loop
+mul-lower c = omega (arith, lower-few (c .before .before))
+
+add-lower : tie.Need-add-lower Inv-loop μ-loop
+add-lower c = omega (arith, lower-few (c .before .before))
+
+mul-words : tie.Need-mul-words Inv-loop μ-loop
+mul-words c = omega (arith, upper-few (c .before .before))
+
+slice-write-words : tie.Need-slice-write-words Inv-loop μ-loop
+slice-write-words c = omega (arith, upper-there (c .before .before) .0)
+
+mul-words-2 : tie.Need-mul-words-2 Inv-loop μ-loop
+mul-words-2 c = omega (arith, lower-few (c .before .before))
+
+slice-write-words-2 : tie.Need-slice-write-words-2 Inv-loop μ-loop
+slice-write-words-2 c = rw length-set (omega (arith, lower-there (c .before .before) .0))
+
+slice-write-marks : tie.Need-slice-write-marks Inv-loop μ-loop
+slice-write-marks c = omega (arith, upper-there (c .before .before) .1)
+
+slice-write-marks-2 : tie.Need-slice-write-marks-2 Inv-loop μ-loop
+slice-write-marks-2 c = rw length-set (omega (arith, lower-there (c .before .before) .1))
+
+cast-place : tie.Need-cast-place Inv-loop μ-loop
+cast-place c = search needs
+
+mul-place : tie.Need-mul-place Inv-loop μ-loop
+mul-place c = omega (arith, within (c .before))
+
+add-place : tie.Need-add-place Inv-loop μ-loop
+add-place c = omega (arith, within (c .before))
+
+add-pair : tie.Need-add-pair Inv-loop μ-loop
+add-pair c = omega (arith, pair-below (c .before .before), bounds (start (c .before .before .before)) .pairs-few)
+
+add-column-2 : tie.Need-add-column-2 Inv-loop μ-loop
+add-column-2 c = search needs
+
+loop-less : tie.Need-loop-less Inv-loop μ-loop
+loop-less c = omega (arith, c .before .before .loop-test .taken)
+
+loop-again : tie.Need-loop-again Inv-loop μ-loop
+loop-again c =
+    let l = c .before .before .before in
+    let g = start l in
+    let inv = l .loop .inv in
+    let below = pair-below (c .before .before) in
+    let mark = c .before .mark-at in
+    let next = coefficient-next (bytes g) (found g) (g .pre .whole) (l .loop .pair) (l .loop .place) (mark .result) below (place-is l) (mark .ensures) in
+    let word = coefficient-is (bytes g) (found g) (g .pre .whole) (l .loop .pair) (l .loop .place) (mark .result) below (place-is l) (mark .ensures) (g .args .none) (c .word-or .result) (g .pre .nought-is ∙ ap nought (sym (g .pre .whole .fields))) (c .word-or .ensures) in
+    record {
+      begun = omega (arith, inv .begun);
+      most = omega (arith, c .before .before .loop-test .taken);
+      pair-is = omega (arith, inv .pair-is, next-pair (n g) (row l) (column l) (inv .begun));
+      moved = omega (arith, inv .moved, next);
+      filled = grid-pair (m l) (n g) (same g) (g .pre .room) (row l) (column l) (c .word-or .result) (mark .result) (inv .begun) (c .before .before .loop-test .taken)
+          (word ∙ ap (λ (k : ℕ). getD (m l .coefficients) k 0) (inv .pair-is)) (mark .ensures ∙ ap (λ (k : ℕ). getD (m l .marks) k 0) (inv .pair-is)) (inv .filled);
+    }
+
+same-length : tie.Need-same-length Inv-loop μ-loop
+same-length c = c .before .loop .inv .filled .words-filled .same-length
+
+same-length-2 : tie.Need-same-length-2 Inv-loop μ-loop
+same-length-2 c = c .before .loop .inv .filled .marks-filled .same-length
+
+returns : tie.Need-returns Inv-loop μ-loop
+returns c =
+    let l = c .before in
+    let g = start l in
+    let all : l .loop .column ≡ found g .fields .n = omega (arith, l .loop .inv .most, c .loop-test .left) in
+    let ends : l .loop .pair ≡ pairAt (m l .fields .n) (row l + 1) (row l + 2) = l .loop .inv .pair-is ∙ ap (pairAt (n g) (row l)) all ∙ ap (λ (k : ℕ). pairAt k (row l) k) (same g) ∙ next-row (m l .fields .n) (row l) (g .pre .within) in (
+      record { pair = ends; place = place-is l ∙ ap (coefficientAt (m l) (found g)) ends },
+      subst (λ (k : ℕ). Grid (m l) (ofRow (row l) k) (now (g .args .words)) (now (g .args .marks)) (l .loop .words) (l .loop .marks)) all (l .loop .inv .filled),
+    )
+
+pub fill-row-spec : {M : Type 1} → statement M
+fill-row-spec =
+    tie.close
+    (tie.spec
+    Inv-loop
+    μ-loop
+    add-column
+    loop-holds
+    mark-at-requires
+    word-or-requires
+    mul-upper
+    add-upper
+    mul-lower
+    add-lower
+    mul-words
+    slice-write-words
+    mul-words-2
+    slice-write-words-2
+    slice-write-marks
+    slice-write-marks-2
+    cast-place
+    mul-place
+    add-place
+    add-pair
+    add-column-2
+    loop-less
+    loop-again
+    same-length
+    same-length-2
+    returns)

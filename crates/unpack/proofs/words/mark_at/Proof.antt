@@ -1,0 +1,51 @@
+-- `unpack::words::mark_at` meets its contract: a bit of the vector, or the mark that all pairs have. Assumes nothing.
+use Prim.Native.Nat.{_+_, _/_, _<_}
+use mathlib.Core.Path.{_∙_, sym}
+use native.Mathlib.Omega.{arith}
+use denote.Ref.{now}
+use lib.ListN.{length}
+use Rattle.unpack.proofs.Values.{vector-place, mark-sparse, mark-full}
+use borrow.Author.Needs.{needs}
+use Rattle.unpack.proofs.words.mark_at.Statement.{statement}
+use Rattle.unpack.proofs.words.mark_at.Tie as tie
+
+-- the byte of the pair's bit is there
+inside : (c : tie.Then1) → let a = c .before .args in 3 + a .pair / 8 < length (now (a .bytes))
+inside c = let s = c .before in omega (arith, vector-place (s .args .f) (s .args .pair) (c .if1 .taken) (s .pre .1 .0), s .pre .1 .1)
+
+add-result : tie.Need-add-result
+add-result c = search needs
+
+shared-slice-read-result : tie.Need-shared-slice-read-result
+shared-slice-read-result c = omega (arith, inside (c .before))
+
+sub-result : tie.Need-sub-result
+sub-result c = search needs
+
+cast-result : tie.Need-cast-result
+cast-result c = search needs
+
+shr-result : tie.Need-shr-result
+shr-result c = search needs
+
+returns : tie.Need-returns
+returns c = let s = c .before .before in sym (mark-sparse (now (s .args .bytes)) (s .args .f) (s .pre .0) (s .args .pair) (s .pre .1 .0) (c .before .if1 .taken) (s .pre .1 .1))
+
+returns-2 : tie.Need-returns-2
+returns-2 c = let s = c .before .before .before in sym (mark-full (now (s .args .bytes)) (s .args .f) (s .pre .0) (s .args .pair) (s .pre .1 .0) (c .before .before .if1 .left) ∙ omega arith)
+
+returns-3 : tie.Need-returns-3
+returns-3 c = let s = c .before .before .before in sym (mark-full (now (s .args .bytes)) (s .args .f) (s .pre .0) (s .args .pair) (s .pre .1 .0) (c .before .before .if1 .left) ∙ omega arith)
+
+pub mark-at-spec : {M : Type 1} → statement M
+mark-at-spec =
+    tie.close
+    (tie.spec
+    add-result
+    shared-slice-read-result
+    sub-result
+    cast-result
+    shr-result
+    returns
+    returns-2
+    returns-3)

@@ -1,0 +1,4 @@
+pub mod Arrangement
+pub mod Unpacking
+pub mod Found
+pub mod Cells

@@ -1,0 +1,57 @@
+-- What unpacking and expanding answer, and what they leave in the lent lists: those change only where the answer is complete.
+use Prim.Native.Nat.{ℕ, _*_}
+use mathlib.Core.Path.{_≡_}
+use mathlib.Core.Bool.{Bool, _||_, cond}
+use mathlib.Core.List.{List, _++_}
+use lib.ListN.{length, drop}
+use lib.Dec.{ltb}
+use Rattle.verdict.specs.declared.Reason.the-variants.{SmallBuffer}
+use Rattle.verdict.specs.declared.Verdict.{Verdict}
+use Rattle.verdict.specs.declared.Verdict.the-variants.{Complete, Unfinished, Refused}
+use Rattle.matrix.specs.Meaning.{Matrix, pairs}
+use Rattle.matrix.specs.Spelling.{meaningOf}
+use Rattle.matrix.specs.Machine.{verdictOf}
+use Rattle.unpack.specs.Arrangement.{expandedWords, expandedMarks}
+
+-- values over the first entries of a list; those past them stay
+abbrev pub over : List ℕ → List ℕ → List ℕ
+over values out = values ++ drop (length values) out
+
+-- a verdict other than complete first, then 13
+abbrev pub saidFor : Verdict → Bool → Verdict
+saidFor (Complete n) short = cond short (Refused (record { reason = SmallBuffer; place = 0 })) (Complete n)
+saidFor (Unfinished missing) short = Unfinished missing
+saidFor (Refused refusal) short = Refused refusal
+
+-- what is left in a lent list: these values where the answer is complete
+abbrev pub leftFor : Verdict → List ℕ → List ℕ → List ℕ
+leftFor (Complete n) values out = over values out
+leftFor (Unfinished missing) values out = out
+leftFor (Refused refusal) values out = out
+
+-- N deviations, M coefficients and M marks have no room
+abbrev pub unpackShort : ℕ → List ℕ → List ℕ → List ℕ → Bool
+unpackShort n deviations coefficients marks = ltb (length deviations) n || (ltb (length coefficients) (pairs n) || ltb (length marks) (pairs n))
+
+-- what unpacking a meaning gives, by the verdict on its bytes
+pub record UnpackedFor (verdict : Verdict) (m : Matrix) (deviations coefficients marks : List ℕ) (answer : Verdict) (deviations′ coefficients′ marks′ : List ℕ) : Type 0 where
+  pub said : answer ≡ saidFor verdict (unpackShort (m .fields .n) deviations coefficients marks)
+  pub left-deviations : deviations′ ≡ leftFor (saidFor verdict (unpackShort (m .fields .n) deviations coefficients marks)) (m .deviations) deviations
+  pub left-coefficients : coefficients′ ≡ leftFor (saidFor verdict (unpackShort (m .fields .n) deviations coefficients marks)) (m .coefficients) coefficients
+  pub left-marks : marks′ ≡ leftFor (saidFor verdict (unpackShort (m .fields .n) deviations coefficients marks)) (m .marks) marks
+
+abbrev pub UnpackedBy : List ℕ → List ℕ → List ℕ → List ℕ → Verdict → List ℕ → List ℕ → List ℕ → Type 0
+UnpackedBy bytes = UnpackedFor (verdictOf bytes) (meaningOf bytes)
+
+-- N × N words and marks have no room
+abbrev pub expandShort : ℕ → List ℕ → List ℕ → Bool
+expandShort n words marks = ltb (length words) (n * n) || ltb (length marks) (n * n)
+
+-- what expanding a meaning gives, by the verdict on its bytes
+pub record ExpandedFor (verdict : Verdict) (m : Matrix) (words marks : List ℕ) (answer : Verdict) (words′ marks′ : List ℕ) : Type 0 where
+  pub said : answer ≡ saidFor verdict (expandShort (m .fields .n) words marks)
+  pub left-words : words′ ≡ leftFor (saidFor verdict (expandShort (m .fields .n) words marks)) (expandedWords m) words
+  pub left-marks : marks′ ≡ leftFor (saidFor verdict (expandShort (m .fields .n) words marks)) (expandedMarks m) marks
+
+abbrev pub ExpandedBy : List ℕ → List ℕ → List ℕ → Verdict → List ℕ → List ℕ → Type 0
+ExpandedBy bytes = ExpandedFor (verdictOf bytes) (meaningOf bytes)

@@ -1,0 +1,150 @@
+// The words of a whole pack, one after the other: deviations, then coefficients by their marks.
+ghost use mathlib.Core.Path.{_≡_};
+ghost use mathlib.Core.Bool.{cond};
+ghost use Prim.Native.Nat.{_+_, _*_, _≤_, _<_};
+ghost use lib.ListN.{length as count, getD};
+ghost use lib.Dec.{eqb};
+ghost use Rattle.word.specs.Bytes.{wordAt};
+ghost use Rattle.verdict.specs.declared.Reason.the-variants.{SmallBuffer};
+ghost use Rattle.verdict.specs.declared.Verdict.the-variants.{Complete, Refused};
+ghost use Rattle.matrix.specs.Meaning.{pairs, nought};
+ghost use Rattle.matrix.specs.Spelling.{vectorBytes, meaningOf};
+ghost use Rattle.unpack.specs.Unpacking.{over, UnpackedFor};
+ghost use Rattle.unpack.specs.Found.{Whole};
+use matrix::Fields;
+use matrix::walk::Found;
+use verdict::Reason;
+use verdict::Refusal;
+use verdict::Verdict;
+use word::bytes::Read;
+use word::bytes::read_at;
+
+// The word of `length` bytes at a place where they are.
+pub(crate) fn word_at(bytes: &[u8], place: usize, length: usize) -> u64
+    requires { ⌜ (length ≤ 8) × (place + length ≤ count (now bytes)) ⌝ }
+    ensures { λ r. ⌜ r ≡ wordAt (now (bytes .entry)) place length ⌝ }
+{
+    let read = read_at(bytes, place, length);
+    match read {
+        Read::Word(word) => word,
+        Read::Unfinished(_) => 0,
+        Read::Refused(_) => 0,
+    }
+}
+
+// The word there if its mark is 1, else the nought.
+pub(crate) fn word_or(bytes: &[u8], place: usize, length: usize, mark: u8, none: u64) -> u64
+    requires { ⌜ (length ≤ 8) × (place + mark * length ≤ count (now bytes)) ⌝ }
+    ensures { λ r. ⌜ r ≡ cond (eqb mark 0) none (wordAt (now (bytes .entry)) place length) ⌝ }
+{
+    if mark == 0 {
+        return none;
+    }
+    word_at(bytes, place, length)
+}
+
+// The nought of the fields' coefficients.
+pub(crate) fn nought_of(f: Fields) -> u64
+    requires { ⌜ f .clen ≤ 8 ⌝ }
+    ensures { λ r. ⌜ r ≡ nought f ⌝ }
+{
+    if !f.cf {
+        return 0;
+    }
+    if f.clen == 0 {
+        return 0;
+    }
+    1 << (8 * f.clen - 2)
+}
+
+// How many pairs of variables there are.
+pub(crate) fn pairs_of(n: usize) -> usize
+    requires { ⌜ (1 ≤ n) × (n ≤ 64) ⌝ }
+    ensures { λ r. ⌜ r ≡ pairs n ⌝ }
+{
+    n * (n - 1) / 2
+}
+
+// The mark of a pair: its bit of the vector, or whether coefficients have bytes.
+pub(crate) fn mark_at(bytes: &[u8], f: Fields, pair: usize) -> u8
+    requires { ⌜ (f ≡ meaningOf (now bytes) .fields) × ((pair < pairs (f .n)) × (3 + vectorBytes f ≤ count (now bytes))) ⌝ }
+    ensures { λ r. ⌜ r ≡ getD (meaningOf (now (bytes .entry)) .marks) pair 0 ⌝ }
+{
+    if f.cs {
+        return (bytes[3 + pair / 8] >> (7 - pair % 8)) % 2;
+    }
+    if f.clen == 0 {
+        return 0;
+    }
+    1
+}
+
+fn fill_deviations(bytes: &[u8], found: Found, deviations: &mut [u64])
+    requires { ⌜ Whole (now bytes) found × (found .fields .n ≤ count (now deviations)) ⌝ }
+    ensures { λ _. ⌜ now (deviations .exit) ≡ over (meaningOf (now (bytes .entry)) .deviations) (now (deviations .entry)) ⌝ }
+{
+    let n = found.fields.n;
+    let length = found.fields.slen;
+    let mut place = found.words;
+    let mut i = 0;
+    while i < n {
+        deviations[i] = word_at(bytes, place, length);
+        place += length;
+        i += 1;
+    }
+}
+
+fn fill_coefficients(bytes: &[u8], found: Found, coefficients: &mut [u64], marks: &mut [u8])
+    requires { ⌜ Whole (now bytes) found × ((pairs (found .fields .n) ≤ count (now coefficients)) × (pairs (found .fields .n) ≤ count (now marks))) ⌝ }
+    ensures { λ _. ⌜ (now (coefficients .exit) ≡ over (meaningOf (now (bytes .entry)) .coefficients) (now (coefficients .entry))) × (now (marks .exit) ≡ over (meaningOf (now (bytes .entry)) .marks) (now (marks .entry))) ⌝ }
+{
+    let f = found.fields;
+    let count = pairs_of(f.n);
+    let none = nought_of(f);
+    let length = f.clen;
+    let mut place = found.words + f.n * f.slen;
+    let mut pair = 0;
+    while pair < count {
+        let mark = mark_at(bytes, f, pair);
+        marks[pair] = mark;
+        coefficients[pair] = word_or(bytes, place, length, mark, none);
+        place += mark as usize * length;
+        pair += 1;
+    }
+}
+
+pub(crate) fn too_small() -> Verdict
+    ensures { λ r. ⌜ r ≡ Refused (record { reason = SmallBuffer; place = 0 }) ⌝ }
+{
+    Verdict::Refused(Refusal {
+        reason: Reason::SmallBuffer,
+        place: 0,
+    })
+}
+
+// Unpacks a whole pack, where there is room.
+pub(crate) fn unpack_found(
+    bytes: &[u8],
+    found: Found,
+    deviations: &mut [u64],
+    coefficients: &mut [u64],
+    marks: &mut [u8],
+) -> Verdict
+    requires { ⌜ Whole (now bytes) found ⌝ }
+    ensures { λ r. ⌜ UnpackedFor (Complete (found .length)) (meaningOf (now (bytes .entry))) (now (deviations .entry)) (now (coefficients .entry)) (now (marks .entry)) r (now (deviations .exit)) (now (coefficients .exit)) (now (marks .exit)) ⌝ }
+{
+    let n = found.fields.n;
+    let count = pairs_of(n);
+    if deviations.len() < n {
+        return too_small();
+    }
+    if coefficients.len() < count {
+        return too_small();
+    }
+    if marks.len() < count {
+        return too_small();
+    }
+    fill_deviations(bytes, found, deviations);
+    fill_coefficients(bytes, found, coefficients, marks);
+    Verdict::Complete(found.length)
+}
