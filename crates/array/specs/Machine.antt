@@ -1,4 +1,4 @@
--- The machine of array packs: what each byte does, and the fewest bytes that are missing in each state.
+-- The machine of array packs, which each byte moves as the table says: the fewest bytes that are missing in each state, and the verdict of its run.
 use Prim.Native.Nat.{ℕ, suc, _+_, _*_, _≤_, _<_}
 use mathlib.Core.List.{List}
 use Rattle.verdict.specs.declared.Verdict.{Verdict}

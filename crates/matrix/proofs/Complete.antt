@@ -1,9 +1,8 @@
 -- What a complete verdict gives: the bytes have a lawful meaning, and begin with its bytes. Assumes nothing.
 use Prim.Native.Nat.{ℕ}
 use mathlib.Core.Path.{_≡_, subst}
-use mathlib.Core.List.{List, _++_}
+use mathlib.Core.List.{List}
 use lib.ListN.{take, drop, take-append-drop}
-use Rattle.verdict.specs.declared.Verdict.{Verdict}
 use Rattle.verdict.specs.declared.Verdict.the-variants.{Complete}
 use Rattle.verdict.specs.Says.{Bytes, Says}
 use Rattle.matrix.specs.Meaning.{Lawful}
