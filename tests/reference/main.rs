@@ -19,6 +19,7 @@ mod frame;
 mod lines;
 mod matrix;
 mod rows;
+mod values;
 mod verdict;
 
 use std::collections::BTreeMap;

@@ -5,7 +5,7 @@ use crate::corpus::greatest_word;
 use crate::frame::{bytes_of_hex, hex_of_bytes};
 use crate::matrix::{allowed_lengths, coefficient_count, vector_length, Role};
 use crate::verdict::Verdict;
-use crate::{address, array, matrix};
+use crate::{address, array, matrix, values};
 use std::collections::HashSet;
 use std::io::{self, BufRead, Write};
 
@@ -16,8 +16,13 @@ pub fn run(input: &mut dyn BufRead, output: &mut dyn Write) -> io::Result<()> {
         let line = line?;
         let wrong = || io::Error::new(io::ErrorKind::InvalidData, format!("not a row: {}", line));
         let kind = line.chars().next().ok_or_else(wrong)?;
-        if kind == 'A' {
-            writeln!(output, "{} {}", line, addressed(&line).ok_or_else(wrong)?)?;
+        let said = match kind {
+            'A' => Some(addressed(&line).ok_or_else(wrong)?),
+            'U' | 'E' | 'C' => Some(values::said(&line).ok_or_else(wrong)?),
+            _ => None,
+        };
+        if let Some(said) = said {
+            writeln!(output, "{} {}", line, said)?;
             continue;
         }
         let verdict: fn(&[u8]) -> Verdict = match kind {
@@ -777,7 +782,7 @@ pub fn make(output: &mut dyn Write) -> io::Result<()> {
     array_elements(&mut rows);
     array_bodies(&mut rows);
     rows.print(output)?;
-    for row in address::make() {
+    for row in address::make().iter().chain(&values::make()) {
         writeln!(output, "{}", row)?;
     }
     Ok(())

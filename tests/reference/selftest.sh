@@ -236,7 +236,7 @@ diff "$work/expected" "$work/got" || fail "a line worked out by hand differs"
 
 # The made rows: none twice, all of them lawful rows, at most what the program that runs them takes at once.
 test -z "$(sort "$work/made" | uniq -d)" || fail "make-rows repeats a row"
-test "$(wc -c < "$work/made")" -le 262144 || fail "make-rows prints too much"
+test "$(wc -c < "$work/made")" -le 524288 || fail "make-rows prints too much"
 "$reference" rows < "$work/made" > /dev/null
 
 # The corpus: equal arguments give equal bytes, and every word and reason is reached.

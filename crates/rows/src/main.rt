@@ -1,10 +1,13 @@
 // Runs rows of bytes through the readers and says what each gives: the verdict on "S HEX", a matrix pack, and "M HEX", an array pack
 // ("s HEX", "m HEX": on every beginning too); "A HEX COUNT INDEX ..": an array pack of these bytes and so many of 0, read and addressed.
+// "U HEX D C M" a matrix pack unpacked into lists of these lengths, "E HEX W M" expanded, "C HEX" its scaled coefficients.
 ghost use Prim.Native.Nat.{_+_, _*_, _≤_, _<_};
 ghost use lib.ListN.{length};
 use libc::STDIN_FILENO;
 use libc::STDOUT_FILENO;
 use verdict::Verdict;
+
+mod values;
 
 // The value of a hexadecimal digit, 16 for any other character.
 fn digit(c: u8) -> u8
@@ -27,7 +30,7 @@ fn pairs(text: &[u8], from: usize, out: &[u8]) -> usize
 }
 
 // The bytes that a text spells from a place on, up to what is no pair of digits: how many.
-fn decode(text: &[u8], from: usize, out: &mut [u8]) -> usize
+pub(crate) fn decode(text: &[u8], from: usize, out: &mut [u8]) -> usize
     requires { ⌜ from ≤ length (now text) ⌝ }
     ensures { λ r. ⌜ (from + 2 * r ≤ length (now (text .entry))) × (r ≤ length (now (out .exit))) ⌝ }
 {
@@ -48,7 +51,7 @@ fn decode(text: &[u8], from: usize, out: &mut [u8]) -> usize
     n
 }
 
-fn say(said: Verdict) {
+pub(crate) fn say_verdict(said: Verdict) {
     match said {
         Verdict::Complete(length) => {
             io::write_all(STDOUT_FILENO, b"complete ");
@@ -67,6 +70,10 @@ fn say(said: Verdict) {
             io::print_decimal(STDOUT_FILENO, place as u64);
         }
     }
+}
+
+fn say(said: Verdict) {
+    say_verdict(said);
     io::write_all(STDOUT_FILENO, b"\n");
 }
 
@@ -129,7 +136,7 @@ fn decimal(text: &[u8], from: usize) -> Found
 }
 
 // The numbers behind the spaces from a place on, as far as there is room for them: how many.
-fn decimals(text: &[u8], from: usize, out: &mut [usize]) -> usize
+pub(crate) fn decimals(text: &[u8], from: usize, out: &mut [usize]) -> usize
     requires { ⌜ from ≤ length (now text) ⌝ }
     ensures { λ r. ⌜ r ≤ length (now (out .exit)) ⌝ }
 {
@@ -235,11 +242,13 @@ fn row(text: &[u8], out: &mut [u8]) {
     if text.len() < 2 {
         return;
     }
-    if text[0] == 65 {
-        address_row(text, out);
-        return;
+    match text[0] {
+        65 => address_row(text, out),
+        67 => values::scaled_row(text, out),
+        69 => values::expand_row(text, out),
+        85 => values::unpack_row(text, out),
+        _ => pack_row(text, out),
     }
-    pack_row(text, out);
 }
 
 // The end of the line that begins at a place.
@@ -267,7 +276,7 @@ fn rows(text: &[u8], out: &mut [u8]) {
 }
 
 fn main() {
-    let mut text = [0u8; 262144];
+    let mut text = [0u8; 524288];
     let mut out = [0u8; 65536];
     let n = io::read_full(STDIN_FILENO, &mut text);
     rows(&text[..n], &mut out);

@@ -1,0 +1,65 @@
+-- `values::say_marks` is safe and ends: what is left of the list gets less. Assumes nothing.
+use Prim.Native.Nat.{_-_, _≤_}
+use lib.ListN.{length}
+use native.Mathlib.Omega.{arith}
+use borrow.Author.Needs.{needs}
+use Rattle.rows.proofs.values.say_marks.Statement.{statement}
+use Rattle.rows.proofs.values.say_marks.Tie as tie
+
+abbrev Inv-loop : tie.InvT-loop
+Inv-loop list count i₀ t4 i = 1 ≤ i
+
+abbrev μ-loop : tie.MeasureT-loop
+μ-loop list count i₀ t4 i = length list - i
+
+loop-holds : tie.Need-loop-holds Inv-loop μ-loop
+loop-holds c = search needs
+
+returns : tie.Need-returns Inv-loop μ-loop
+returns c = search needs
+
+slice-aggregate-write-all : tie.Need-slice-aggregate-write-all Inv-loop μ-loop
+slice-aggregate-write-all c = search needs
+
+write-all-requires : tie.Need-write-all-requires Inv-loop μ-loop
+write-all-requires c κs = search needs
+
+shared-slice-read-print-decimal : tie.Need-shared-slice-read-print-decimal Inv-loop μ-loop
+shared-slice-read-print-decimal c = search needs
+
+cast-print-decimal : tie.Need-cast-print-decimal Inv-loop μ-loop
+cast-print-decimal c =
+    record { fits = omega (arith, c .shared-slice-known2 .given (c .before .before .before .before .before .loop .i) .fits) }
+
+print-decimal-requires : tie.Need-print-decimal-requires Inv-loop μ-loop
+print-decimal-requires c κs = search needs
+
+add-i : tie.Need-add-i Inv-loop μ-loop
+add-i c = search needs
+
+loop-less : tie.Need-loop-less Inv-loop μ-loop
+loop-less c = search needs
+
+loop-again : tie.Need-loop-again Inv-loop μ-loop
+loop-again c = search needs
+
+returns-2 : tie.Need-returns-2 Inv-loop μ-loop
+returns-2 c = search needs
+
+pub say-marks-spec : {M : Type 1} → statement M
+say-marks-spec =
+    tie.close
+    (tie.spec
+    Inv-loop
+    μ-loop
+    loop-holds
+    returns
+    slice-aggregate-write-all
+    write-all-requires
+    shared-slice-read-print-decimal
+    cast-print-decimal
+    print-decimal-requires
+    add-i
+    loop-less
+    loop-again
+    returns-2)
