@@ -14,10 +14,11 @@ use Rattle.frame.specs.declared.feed.Feeding.{Feeding}
 use Rattle.frame.specs.declared.feed.Feeding.the-variants.{Fed as FedCase, Refused}
 use Rattle.frame.specs.Line.{longestLine}
 use Rattle.frame.specs.Text.{textOf}
-use Rattle.frame.specs.Writing.{put, room}
+use Rattle.verdict.specs.Writing.{put}
+use Rattle.frame.specs.Writing.{room}
 use Rattle.frame.specs.Report.{nextNumber}
 use Rattle.frame.specs.Feeding.{kept, heldOn, keptAll, heldAll, heldAnswer, Piece, Came, behind, cameOf, answerFor, Closed, Fed, Kept, tooSmall, FedBy}
-use Rattle.frame.proofs.Putting.{put-none, put-put}
+use Rattle.verdict.proofs.Putting.{put-none, put-put}
 
 -- what came, behind so many characters and this text
 abbrev pub further : ℕ → List ℕ → Came → Came

@@ -11,8 +11,8 @@ use lib.Dec.{eqb, ltb}
 use Rattle.verdict.proofs.Cases.{either}
 use Rattle.frame.specs.Line.{longestLine}
 use Rattle.frame.specs.Feeding.{heldOn, keptAll, heldAll, Piece}
-use Rattle.frame.specs.Writing.{put}
-use Rattle.frame.proofs.Putting.{put-none, put-one, put-put}
+use Rattle.verdict.specs.Writing.{put}
+use Rattle.verdict.proofs.Putting.{put-none, put-one, put-put}
 
 -- with characters more, the count stops one past the longest line
 held-more : (held count : ℕ) → heldAll held (suc count) ≡ min (held + suc count) (longestLine + 1)

@@ -1,4 +1,3 @@
-pub mod Putting
 pub mod Decimals
 pub mod Spelling
 pub mod Lines

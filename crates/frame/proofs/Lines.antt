@@ -18,9 +18,10 @@ use Rattle.frame.specs.declared.Outcome.the-variants.{Ok, Cut, Bad, Open
 use Rattle.frame.specs.declared.Answer.{Answer}
 use Rattle.frame.specs.declared.feed.State.{State}
 use Rattle.frame.specs.Text.{letterOf, wordOf, firstOf, secondOf, decimal, textOf}
-use Rattle.frame.specs.Writing.{put, room, WrittenLine}
+use Rattle.verdict.specs.Writing.{put}
+use Rattle.frame.specs.Writing.{room, WrittenLine}
 use Rattle.frame.specs.Feeding.{heldAnswer, Closed, Finished}
-use Rattle.frame.proofs.Putting.{put-none, put-put, length-put}
+use Rattle.verdict.proofs.Putting.{put-none, put-put, length-put}
 
 pub word-short : (outcome : Outcome) → length (wordOf outcome) ≤ 4
 word-short (Ok count) = omega arith

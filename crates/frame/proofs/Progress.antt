@@ -13,7 +13,8 @@ use Rattle.frame.specs.declared.feed.Feeding.{Feeding}
 use Rattle.frame.specs.declared.feed.Feeding.the-variants.{Fed as FedCase, Refused}
 use Rattle.frame.specs.Line.{longestLine}
 use Rattle.frame.specs.Text.{textOf}
-use Rattle.frame.specs.Writing.{put, room}
+use Rattle.verdict.specs.Writing.{put}
+use Rattle.frame.specs.Writing.{room}
 use Rattle.frame.specs.Report.{nextNumber}
 use Rattle.frame.specs.Feeding.{kept, heldOn, heldAnswer, Came, cameOf, Fed, FedBy, Calls, more}
 

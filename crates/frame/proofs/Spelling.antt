@@ -6,8 +6,8 @@ use native.Mathlib.Omega.{arith}
 use lib.ListN.{length, take, drop, getD, set, length-append, length-drop, drop-of-length-le}
 use lib.Seq.{take-all, take-take, take-at, drop-cons, getD-take, getD-at, length-take-le}
 use Rattle.frame.specs.Text.{decimal}
-use Rattle.frame.specs.Writing.{put}
-use Rattle.frame.proofs.Putting.{put-none, put-before, length-put}
+use Rattle.verdict.specs.Writing.{put}
+use Rattle.verdict.proofs.Putting.{put-none, put-before, length-put}
 use Rattle.frame.proofs.Decimals.{digits, digits-none, decimal-last, digits-last}
 
 pub record Spelt (out₀ : List ℕ) (place n at rest : ℕ) (out : List ℕ) : Type 0 where

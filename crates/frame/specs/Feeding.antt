@@ -16,7 +16,8 @@ use Rattle.frame.specs.declared.feed.Feeding.the-variants.{Fed as FedCas
 use Rattle.frame.specs.Frame.{refusing}
 use Rattle.frame.specs.Line.{longestLine, lineAnswer}
 use Rattle.frame.specs.Text.{textOf}
-use Rattle.frame.specs.Writing.{put, room, countOr13, putOr13}
+use Rattle.verdict.specs.Writing.{put}
+use Rattle.frame.specs.Writing.{room, countOr13, putOr13}
 use Rattle.frame.specs.Report.{nextNumber}
 
 -- the line buffer with one more character of the open line, and how many are held: past the longest line none is kept, and the count tells that it ran over

@@ -8,12 +8,9 @@ use lib.Dec.{ltb}
 use Rattle.verdict.specs.declared.Reason.the-variants.{SmallBuffer}
 use Rattle.verdict.specs.declared.Verdict.{Verdict}
 use Rattle.verdict.specs.declared.Verdict.the-variants.{Complete, Refused}
+use Rattle.verdict.specs.Writing.{put}
 use Rattle.frame.specs.declared.Answer.{Answer}
 use Rattle.frame.specs.Text.{textOf}
-
--- bytes over those at a place
-unfoldable pub put : List ℕ → ℕ → List ℕ → List ℕ
-put out place bytes = take place out ++ (bytes ++ drop (place + length bytes) out)
 
 -- no report line is longer
 abbrev pub room : ℕ

@@ -1,7 +1,7 @@
 -- Document 01's table for matrix packs: the rules of each field, in their order within one byte, with the reason where one is broken.
 use Prim.Native.Nat.{ℕ, _-_, _*_, _/_, _%_, _^_}
 use mathlib.Core.Bool.{Bool, true, not, _&&_, cond}
-use mathlib.Core.List.{List, [], _∷_}
+use mathlib.Core.List.{List, [], _∷_, _++_}
 use lib.ListN.{length, take, getD}
 use lib.Dec.{eqb, ltb}
 use Rattle.verdict.specs.declared.Reason.{Reason}
@@ -20,24 +20,35 @@ sizeRows b =
     ∷ record { broken = ltb 64 b; reason = TooLarge }
     ∷ []
 
--- control byte 1: 4, 5, 6, 7, 8
-abbrev pub control1Rows : Fields → ℕ → List Row
-control1Rows f b =
-    record { broken = eqb (b / 128) 0; reason = Mode }
-    ∷ record { broken = eqb (b / 64 % 2) 1; reason = Reserved }
-    ∷ record { broken = not (allowed (f .cf) (f .clen)); reason = ValueLength }
+-- what control byte 1 says of the coefficients: 6, 7, 8
+abbrev pub coefficientRows : Fields → List Row
+coefficientRows f =
+    record { broken = not (allowed (f .cf) (f .clen)); reason = ValueLength }
     ∷ record { broken = f .cs && eqb (f .clen) 0; reason = Sparse }
     ∷ record { broken = eqb (f .n) 1 && ltb 0 (f .clen); reason = SizeOne }
     ∷ []
 
--- control byte 2: 4, 5, 6, 9
-abbrev pub control2Rows : Fields → ℕ → List Row
-control2Rows f b =
-    record { broken = eqb (b / 128) 1; reason = Mode }
-    ∷ record { broken = not (eqb (b / 32 % 4) 0); reason = Reserved }
-    ∷ record { broken = not (allowed (f .sf) (f .slen)); reason = ValueLength }
+-- what control byte 2 says of the deviations: 6, 9
+abbrev pub deviationRows : Fields → List Row
+deviationRows f =
+    record { broken = not (allowed (f .sf) (f .slen)); reason = ValueLength }
     ∷ record { broken = eqb (f .slen) 0 && eqb (f .clen) 0; reason = Empty }
     ∷ []
+
+-- control byte 1: 4, 5, then of the coefficients
+abbrev pub control1Rows : Fields → ℕ → List Row
+control1Rows f b = record { broken = eqb (b / 128) 0; reason = Mode } ∷ record { broken = eqb (b / 64 % 2) 1; reason = Reserved } ∷ coefficientRows f
+
+-- control byte 2: 4, 5, then of the deviations
+abbrev pub control2Rows : Fields → ℕ → List Row
+control2Rows f b = record { broken = eqb (b / 128) 1; reason = Mode } ∷ record { broken = not (eqb (b / 32 % 4) 0); reason = Reserved } ∷ deviationRows f
+
+-- fields that are given and not read: 1 or 2 for the size, then of the coefficients and of the deviations
+abbrev pub fieldRows : Fields → List Row
+fieldRows f =
+    record { broken = eqb (f .n) 0; reason = Zero }
+    ∷ record { broken = ltb 64 (f .n); reason = TooLarge }
+    ∷ (coefficientRows f ++ deviationRows f)
 
 -- the last vector byte: 10, 9. `sent` is how many of the M bits are 1
 abbrev pub vectorRows : Fields → ℕ → ℕ → List Row

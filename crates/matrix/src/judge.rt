@@ -4,13 +4,13 @@ ghost use Prim.Native.Nat.{_≤_, _-_, _*_};
 ghost use Rattle.word.specs.Rules.{allowed};
 ghost use Rattle.matrix.specs.Meaning.{pairs};
 ghost use Rattle.matrix.specs.Spelling.{vectorBytes};
-ghost use Rattle.matrix.specs.Table.{sizeRows, control1Rows, control2Rows, vectorRows};
+ghost use Rattle.matrix.specs.Table.{sizeRows, coefficientRows, deviationRows, control1Rows, control2Rows, fieldRows, vectorRows};
 ghost use Rattle.matrix.specs.Judgement.{judgement};
 use crate::Fields;
 use verdict::Reason;
 
 // All rules are kept, or the first that is broken has this reason.
-pub(crate) enum Judged {
+pub enum Judged {
     Kept,
     Broken(Reason),
 }
@@ -41,15 +41,9 @@ pub(crate) fn judge_size(b: usize) -> Judged
     Judged::Kept
 }
 
-pub(crate) fn judge_control1(f: Fields, b: usize) -> Judged
-    ensures { λ r. ⌜ r ≡ judgement (control1Rows f b) ⌝ }
+fn judge_coefficients(f: Fields) -> Judged
+    ensures { λ r. ⌜ r ≡ judgement (coefficientRows f) ⌝ }
 {
-    if b / 128 == 0 {
-        return Judged::Broken(Reason::Mode);
-    }
-    if b / 64 % 2 == 1 {
-        return Judged::Broken(Reason::Reserved);
-    }
     if !allows(f.cf, f.clen) {
         return Judged::Broken(Reason::ValueLength);
     }
@@ -62,6 +56,30 @@ pub(crate) fn judge_control1(f: Fields, b: usize) -> Judged
     Judged::Kept
 }
 
+fn judge_deviations(f: Fields) -> Judged
+    ensures { λ r. ⌜ r ≡ judgement (deviationRows f) ⌝ }
+{
+    if !allows(f.sf, f.slen) {
+        return Judged::Broken(Reason::ValueLength);
+    }
+    if (f.slen == 0) & (f.clen == 0) {
+        return Judged::Broken(Reason::Empty);
+    }
+    Judged::Kept
+}
+
+pub(crate) fn judge_control1(f: Fields, b: usize) -> Judged
+    ensures { λ r. ⌜ r ≡ judgement (control1Rows f b) ⌝ }
+{
+    if b / 128 == 0 {
+        return Judged::Broken(Reason::Mode);
+    }
+    if b / 64 % 2 == 1 {
+        return Judged::Broken(Reason::Reserved);
+    }
+    judge_coefficients(f)
+}
+
 pub(crate) fn judge_control2(f: Fields, b: usize) -> Judged
     ensures { λ r. ⌜ r ≡ judgement (control2Rows f b) ⌝ }
 {
@@ -71,13 +89,24 @@ pub(crate) fn judge_control2(f: Fields, b: usize) -> Judged
     if b / 32 % 4 != 0 {
         return Judged::Broken(Reason::Reserved);
     }
-    if !allows(f.sf, f.slen) {
-        return Judged::Broken(Reason::ValueLength);
+    judge_deviations(f)
+}
+
+// Fields that a writer is given.
+pub fn judge_fields(f: Fields) -> Judged
+    ensures { λ r. ⌜ r ≡ judgement (fieldRows f) ⌝ }
+{
+    if f.n == 0 {
+        return Judged::Broken(Reason::Zero);
     }
-    if (f.slen == 0) & (f.clen == 0) {
-        return Judged::Broken(Reason::Empty);
+    if 64 < f.n {
+        return Judged::Broken(Reason::TooLarge);
     }
-    Judged::Kept
+    let judged = judge_coefficients(f);
+    match judged {
+        Judged::Kept => judge_deviations(f),
+        Judged::Broken(reason) => Judged::Broken(reason),
+    }
 }
 
 // The last byte of a vector with so many unused bits and, in all, so many ones.

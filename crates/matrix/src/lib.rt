@@ -8,7 +8,7 @@ use verdict::Verdict;
 
 mod control;
 mod header;
-mod judge;
+pub mod judge;
 mod vector;
 pub mod walk;
 mod words;

@@ -4,5 +4,6 @@ pub mod Saying
 pub mod Running
 pub mod Reaching
 pub mod Judging
+pub mod Putting
 pub mod OneAnswer
 pub mod Only

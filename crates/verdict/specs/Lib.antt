@@ -2,3 +2,4 @@ pub mod Numbers
 pub mod Says
 pub mod Machine
 pub mod Rows
+pub mod Writing

@@ -8,8 +8,9 @@ use lib.ListN.{length, take, drop, getD, set, replicate, length-append, length-t
 use lib.Seq.{take-all, take-suc, take-take, take-at, drop-cons, getD-drop, getD-take, getD-at, set-at, append-snoc, length-take-le}
 use Rattle.verdict.specs.declared.Reason.{Reason}
 use Rattle.verdict.specs.declared.Verdict.the-variants.{Complete}
+use Rattle.verdict.specs.Writing.{put, refusing}
 use Rattle.word.specs.Digits.{digits}
-use Rattle.word.specs.Bytes.{writtenOf, refusing, Written}
+use Rattle.word.specs.Bytes.{writtenOf, Written}
 use Rattle.word.proofs.Digits.{length-digits}
 
 -- one byte more in the first of eight
@@ -25,6 +26,11 @@ eight-more s place i h k =
 -- bytes put over as many keep the length
 pub length-put : (out ds : List ℕ) (place end : ℕ) → place + length ds ≡ end → length ds ≤ length out - place → length (take place out ++ (ds ++ drop end out)) ≡ length out
 length-put out ds place end e h = simp (length-append, length-take, length-drop) (omega arith)
+
+-- a word's bytes put at a place
+pub digits-put : (out : List ℕ) (place n word : ℕ) → put out place (digits 256 n word) ≡ take place out ++ (digits 256 n word ++ drop (place + n) out)
+unfolding put
+digits-put out place n word = rw length-digits
 
 -- a word of n bytes is stored but for its first `left`, which are those of `rest`
 pub record Stored (out₀ : List ℕ) (place n word left rest : ℕ) (out : List ℕ) : Type 0 where
@@ -77,4 +83,4 @@ module _ (out₀ : List ℕ) (place n word : ℕ) where
   -- the count of bytes comes with the word's bytes
   pub stored-left : (out : List ℕ) → writtenOf out₀ place n word ≡ Complete n → out ≡ take place out₀ ++ (digits 256 n word ++ drop (place + n) out₀)
       → Written out₀ place n word (Complete n) out
-  stored-left out e l = record { said = sym e; left = rw e l }
+  stored-left out e l = record { said = sym e; left = rw e (l ∙ sym (digits-put out₀ place n word)) }

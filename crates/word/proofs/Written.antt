@@ -11,11 +11,12 @@ use lib.Seq.{drop-at, drop-drop, take-append-seam, length-take-le}
 use Rattle.verdict.specs.declared.Reason.the-variants.{ValueLength, ValueRange, SmallBuffer}
 use Rattle.verdict.specs.declared.Verdict.{Verdict}
 use Rattle.verdict.specs.declared.Verdict.the-variants.{Complete}
+use Rattle.verdict.specs.Writing.{refusing, leftBy}
 use Rattle.word.specs.declared.bytes.Read.the-variants.{Word, Unfinished, Refused}
 use Rattle.word.specs.Digits.{digits, valueOf}
-use Rattle.word.specs.Bytes.{wordAt, readOf, refusing, writtenOf, leftBy}
+use Rattle.word.specs.Bytes.{wordAt, readOf, writtenOf}
 use Rattle.word.proofs.Digits.{Below, below-take, below-drop, length-digits, value-digits, digits-value}
-use Rattle.word.proofs.Filled.{length-put}
+use Rattle.word.proofs.Filled.{length-put, digits-put}
 
 -- bytes put at a place stand there
 put-back : (out ds rest : List ℕ) (place : ℕ) → length ds ≤ length out - place → take (length ds) (drop place (take place out ++ (ds ++ rest))) ≡ ds
@@ -54,7 +55,7 @@ read-put out place n word t =
 pub read-written : (out : List ℕ) (place n word : ℕ) → writtenOf out place n word ≡ Complete n
     → readOf (leftBy (writtenOf out place n word) out place (digits 256 n word)) place n ≡ Word word
 read-written out place n word e =
-    ap (λ (v : Verdict). readOf (leftBy v out place (digits 256 n word)) place n) e ∙ read-put out place n word (written-fits out place n word e)
+    ap (λ (v : Verdict). readOf (leftBy v out place (digits 256 n word)) place n) e ∙ rw digits-put (read-put out place n word (written-fits out place n word e))
 
 -- a word that was read is there, and is the word at its place
 read-there : (s : List ℕ) (place n w : ℕ) → readOf s place n ≡ Word w → (n ≤ length s - place) × (w ≡ wordAt s place n)
@@ -74,4 +75,4 @@ written-read s place n w f e =
     let l : length (take n (drop place s)) ≡ n = length-take-le n (drop place s) (rw length-drop (t .0)) in
     let d : digits 256 n w ≡ take n (drop place s) =
     ap (digits 256 n) (t .1) ∙ ap (λ (k : ℕ). digits 256 k (wordAt s place n)) (sym l) ∙ digits-value 256 ds (below-take n (drop place s) (below-drop place s f)) in
-    rw (d, ← drop-drop, take-append-drop, take-append-drop)
+    rw (digits-put, d, ← drop-drop, take-append-drop, take-append-drop)

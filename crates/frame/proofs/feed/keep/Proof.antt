@@ -6,8 +6,8 @@ use native.Mathlib.Omega.{arith}
 use borrow.Author.Needs.{needs}
 use lib.ListN.{length, take, length-set}
 use Rattle.frame.specs.Line.{longestLine}
-use Rattle.frame.specs.Writing.{put}
-use Rattle.frame.proofs.Putting.{put-none, put-front}
+use Rattle.verdict.specs.Writing.{put}
+use Rattle.verdict.proofs.Putting.{put-none, put-front}
 use Rattle.frame.proofs.Keeping.{kept-all}
 use Rattle.frame.proofs.feed.keep.Statement.{statement}
 use Rattle.frame.proofs.feed.keep.Tie as tie

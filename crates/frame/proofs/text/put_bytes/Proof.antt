@@ -6,8 +6,8 @@ use native.Mathlib.Omega.{arith}
 use borrow.Author.Needs.{needs}
 use lib.ListN.{length, take, length-set}
 use lib.Seq.{take-all}
-use Rattle.frame.specs.Writing.{put}
-use Rattle.frame.proofs.Putting.{put-none, put-front}
+use Rattle.verdict.specs.Writing.{put}
+use Rattle.verdict.proofs.Putting.{put-none, put-front}
 use Rattle.frame.proofs.text.put_bytes.Statement.{statement}
 use Rattle.frame.proofs.text.put_bytes.Tie as tie
 

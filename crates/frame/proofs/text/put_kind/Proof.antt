@@ -3,7 +3,7 @@ use native.Mathlib.Omega.{arith}
 use borrow.Author.Needs.{needs}
 use lib.ListN.{length-set}
 use Rattle.frame.specs.Text.{letterOf}
-use Rattle.frame.proofs.Putting.{put-three}
+use Rattle.verdict.proofs.Putting.{put-three}
 use Rattle.frame.proofs.text.put_kind.Statement.{statement}
 use Rattle.frame.proofs.text.put_kind.Tie as tie
 

@@ -5,7 +5,7 @@ use native.Mathlib.Omega.{arith}
 use borrow.Author.Needs.{needs}
 use lib.ListN.{length}
 use Rattle.frame.specs.Text.{decimal}
-use Rattle.frame.proofs.Putting.{put-behind, length-put}
+use Rattle.verdict.proofs.Putting.{put-behind, length-put}
 use Rattle.frame.proofs.text.put_number.Statement.{statement}
 use Rattle.frame.proofs.text.put_number.Tie as tie
 

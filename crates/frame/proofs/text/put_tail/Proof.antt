@@ -6,7 +6,7 @@ use native.Mathlib.Omega.{arith}
 use borrow.Author.Needs.{needs}
 use lib.ListN.{length, set}
 use Rattle.frame.specs.Text.{firstOf, secondOf, tailOf}
-use Rattle.frame.proofs.Putting.{put-one, length-put}
+use Rattle.verdict.proofs.Putting.{put-one, length-put}
 use Rattle.frame.proofs.Lines.{spaced, lineFeed, Puts, room-first, room-second, puts-puts, puts-spaced}
 use Rattle.frame.proofs.text.put_tail.Statement.{statement}
 use Rattle.frame.proofs.text.put_tail.Tie as tie

@@ -6,7 +6,7 @@ use native.Mathlib.Omega.{arith}
 use native.Mathlib.Nat.{add-assoc, add-zero}
 use lib.ListN.{length, take, drop, getD, set, length-append, length-take, length-drop, take-append-drop}
 use lib.Seq.{take-at, drop-append-add, drop-drop, take-suc, set-at, append-snoc, length-take-le, set-split}
-use Rattle.frame.specs.Writing.{put}
+use Rattle.verdict.specs.Writing.{put}
 
 pub put-none : (out : List ℕ) (place : ℕ) → put out place [] ≡ out
 unfolding put
