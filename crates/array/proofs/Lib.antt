@@ -3,6 +3,7 @@ pub mod Keeping
 pub mod Accepting
 pub mod Verdicts
 pub mod Decoding
+pub mod Complete
 pub mod Drawing
 pub mod Walking
 pub mod EightSizes

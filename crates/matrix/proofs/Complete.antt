@@ -1,8 +1,9 @@
 -- What a complete verdict gives: the bytes have a lawful meaning, and begin with its bytes. Assumes nothing.
 use Prim.Native.Nat.{ℕ}
-use mathlib.Core.Path.{_≡_, subst}
+use mathlib.Core.Path.{_≡_, ap, _∙_, subst}
 use mathlib.Core.List.{List}
-use lib.ListN.{take, drop, take-append-drop}
+use lib.ListN.{length, take, drop, take-append-drop}
+use lib.Seq.{length-take-le}
 use Rattle.verdict.specs.declared.Verdict.the-variants.{Complete}
 use Rattle.verdict.specs.Says.{Bytes, Says}
 use Rattle.matrix.specs.Meaning.{Lawful}
@@ -17,3 +18,9 @@ pub complete-meaning : (bytes : List ℕ) → Bytes bytes → (n : ℕ) → verd
 complete-meaning bytes b n e =
     let said : Says MatrixPack Why bytes (Complete n) = subst (Says MatrixPack Why bytes) e (matrix-said bytes b) in
     subst (λ (w : List ℕ). Lawful (meaningOf w) × (bytesOf (meaningOf w) ≡ take n bytes)) (take-append-drop n bytes) (pack-meaning (take n bytes) (drop n bytes) (said .pack))
+
+-- and so many bytes
+pub complete-count : (bytes : List ℕ) → Bytes bytes → (n : ℕ) → verdictOf bytes ≡ Complete n → length (bytesOf (meaningOf bytes)) ≡ n
+complete-count bytes b n e =
+    let said : Says MatrixPack Why bytes (Complete n) = subst (Says MatrixPack Why bytes) e (matrix-said bytes b) in
+    ap length (complete-meaning bytes b n e .1) ∙ length-take-le n bytes (said .within)

@@ -1,18 +1,18 @@
 -- The control bytes and the fields: each spells the other where its rules are kept. Assumes nothing.
 use Prim.Native.Nat.{ℕ, zero, suc, _+_, _*_, _/_, _%_, _≤_, _<_}
 use mathlib.Core.Path.{_≡_, refl, sym, ap, _∙_, subst}
-use mathlib.Core.Bool.{Bool, true, false, _&&_}
+use mathlib.Core.Bool.{Bool, true, false}
 use native.Mathlib.Nat.{div-div-eq-div-mul}
 use native.Mathlib.Omega.{arith}
 use borrow.Author.Tests.{eqb-true, eqb-false, eq-eqb, ne-eqb, le-ltb, ltb-false, not-false}
-use lib.Dec.{eqb, ltb}
+use lib.Dec.{eqb}
 use Rattle.verdict.proofs.Judging.{Kept}
-use Rattle.verdict.proofs.Cases.{either}
 use Rattle.word.proofs.Certain.{deviation-sound, coefficient-sound, deviation-length, coefficient-length}
 use Rattle.matrix.specs.declared.Fields.{Fields}
 use Rattle.matrix.specs.Meaning.{LawfulFirst, LawfulFields}
 use Rattle.matrix.specs.Spelling.{bit, first, second, control1, control2}
 use Rattle.matrix.specs.Table.{sizeRows, control1Rows, control2Rows}
+use Rattle.matrix.proofs.FieldRules.{lawful-coefficients, lawful-deviations}
 
 bit-of : (x : ℕ) → x < 2 → bit (eqb x 1) ≡ x
 bit-of zero h = refl
@@ -85,16 +85,10 @@ module _ (f : Fields) (g : LawfulFirst f) where
   pub first-rows : Kept (control1Rows (first (f .n) (control1 f)) (control1 f))
   first-rows =
       subst (λ (h : Fields). Kept (control1Rows h (control1 f))) (sym first-back)
-      (ne-eqb (control1 f / 128) 0 (λ e. omega arith), (ne-eqb (control1 f / 64 % 2) 1 (λ e. omega (arith, upper)), (rw (g .coefficient-length), (sparse-rows, (one-rows, tt)))))
+      (ne-eqb (control1 f / 128) 0 (λ e. omega arith), (ne-eqb (control1 f / 64 % 2) 1 (λ e. omega (arith, upper)), lawful-coefficients f g))
     where
       upper : control1 f / 64 ≡ 2
       upper = omega (arith, clen-small, bit-small (f .cf), bit-small (f .cs))
-
-      sparse-rows : f .cs && eqb (f .clen) 0 ≡ false
-      sparse-rows = either (f .cs) (λ e. rw (e, ne-eqb (f .clen) 0 (λ z. omega (arith, g .sparse e)))) (λ e. rw e)
-
-      one-rows : eqb (f .n) 1 && ltb 0 (f .clen) ≡ false
-      one-rows = either (eqb (f .n) 1) (λ e. rw (e, le-ltb 0 (f .clen) (omega (arith, g .size-one (eqb-true (f .n) 1 e))))) (λ e. rw e)
 
 module _ (f : Fields) (g : LawfulFields f) where
   pub slen-small : f .slen ≤ 8
@@ -122,4 +116,4 @@ module _ (f : Fields) (g : LawfulFields f) where
   second-rows =
       let upper : control2 f / 32 ≡ 0 = omega (arith, slen-small, bit-small (f .sf)) in
       let reserved : control2 f / 32 % 4 ≡ 0 = omega arith in
-      (ne-eqb (control2 f / 128) 1 (λ e. omega (arith, slen-small, bit-small (f .sf))), (rw (eq-eqb (control2 f / 32 % 4) 0 reserved), (rw (g .deviation-length), (either (eqb (f .slen) 0) (λ e. rw (e, ne-eqb (f .clen) 0 (λ z. omega (arith, g .some-length, eqb-true (f .slen) 0 e)))) (λ e. rw e), tt))))
+      (ne-eqb (control2 f / 128) 1 (λ e. omega (arith, slen-small, bit-small (f .sf))), (rw (eq-eqb (control2 f / 32 % 4) 0 reserved), lawful-deviations f g))

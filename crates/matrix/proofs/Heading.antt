@@ -10,15 +10,16 @@ use Rattle.verdict.specs.declared.Verdict.the-variants.{Refused}
 use Rattle.verdict.specs.Machine.{on}
 use Rattle.verdict.proofs.Reaching.{reach-start, reach-step}
 use Rattle.matrix.specs.declared.Fields.{Fields}
-use Rattle.matrix.specs.declared.judge.Judged.the-variants.{Kept as JudgedKept, Broken}
+use Rattle.verdict.specs.declared.Judged.the-variants.{Kept as JudgedKept, Broken}
 use Rattle.matrix.specs.Meaning.{LawfulFirst}
 use Rattle.matrix.specs.Spelling.{first, second, vectorBytes}
 use Rattle.matrix.specs.Table.{sizeRows, control1Rows, control2Rows}
-use Rattle.matrix.specs.Judgement.{judgement}
+use Rattle.verdict.specs.Judgement.{judgement}
 use Rattle.matrix.specs.Machine.{size, control1, control2, enterValues, step, least, verdictOf, verdictAt, verdictBehind}
 use Rattle.matrix.specs.Walk.{Headed}
 use Rattle.matrix.proofs.Keeping.{first-kept, second-kept}
-use Rattle.matrix.proofs.Judgements.{judgement-kept, behind-on, behind-kept, behind-broken}
+use Rattle.verdict.proofs.Deciding.{judgement-kept}
+use Rattle.matrix.proofs.Judgements.{behind-on, behind-kept, behind-broken}
 
 module _ (bytes : List ℕ) (n : ℕ) (here : 0 < length bytes) (read : n ≡ getD bytes 0 0) where
   size-step : verdictOf bytes ≡ verdictBehind (judged (sizeRows n) (on (control1 n))) bytes 1

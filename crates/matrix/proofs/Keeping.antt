@@ -6,7 +6,7 @@ use mathlib.Core.List.{List, [], _∷_}
 use mathlib.Core.Logic.{_⊎_, inl, inr, ⊎-elim}
 use native.Mathlib.Nat.{le-mul-of-pos-right, one-le-pow, zero-div, div-eq-of-eq-mul-left, pow-suc, mul-zero, zero-mul, suc-mul, mod-lt, mul-le-mul-right, mul-mod-right, zero-mod, add-zero, le-trans, mul-le-mul-left, min-le-left, mul-assoc}
 use native.Mathlib.Omega.{arith}
-use borrow.Author.Tests.{eqb-false, ltb-false, ltb-true, eqb-true, ne-eqb, le-ltb, eq-eqb, not-false}
+use borrow.Author.Tests.{eqb-false, ltb-false, ltb-true, eqb-true, ne-eqb, le-ltb, eq-eqb}
 use lib.Dec.{eqb, ltb, lit<}
 use lib.Pow.{pow-add}
 use Rattle.verdict.specs.Rows.{Row, judged}
@@ -17,13 +17,14 @@ use Rattle.matrix.specs.declared.Fields.{Fields}
 use Rattle.verdict.proofs.Cases.{by-test, either, and-right}
 use Rattle.word.specs.Digits.{digits}
 use Rattle.word.specs.declared.rules.Rule.{Rule}
-use Rattle.word.specs.Rules.{allowed, cleared, Sound}
+use Rattle.word.specs.Rules.{cleared, Sound}
 use Rattle.matrix.specs.Meaning.{pairs, sum, LawfulFirst, LawfulFields}
 use Rattle.matrix.specs.Spelling.{bit, vectorBytes, first, second}
 use Rattle.matrix.specs.Table.{sizeRows, control1Rows, control2Rows, vectorRows, wordRows}
 use Rattle.matrix.specs.Machine.{State, size, control1, control2, vector, word, Run, enter, enterRun, enterWord, runBytes, inWord, restOf, wordsOf, allSent, enterValues, step, least, leastFor, leastValues, fewest, GoodRuns, GoodRun, GoodWord, GoodVector, Good}
 use Rattle.matrix.proofs.BitVector.{sum-append}
 use Rattle.matrix.proofs.ControlBytes.{size-kept}
+use Rattle.matrix.proofs.FieldRules.{coefficients-lawful, deviations-lawful}
 use Rattle.matrix.proofs.Pairs.{pairs-some, pairs-most}
 
 -- by a test of two numbers
@@ -44,15 +45,7 @@ nears-size = refl
 
 -- what the rules of control byte 1 leave
 pub first-kept : (n b : ℕ) → 1 ≤ n → n ≤ 64 → Kept (control1Rows (first n b) b) → LawfulFirst (first n b)
-first-kept n b h g k =
-    let f = first n b in
-    record {
-      size-least = h;
-      size-most = g;
-      coefficient-length = not-false (allowed (f .cf) (f .clen)) (k .1 .1 .0);
-      sparse = λ e. omega (arith, eqb-false (f .clen) 0 (and-right (f .cs) (eqb (f .clen) 0) (k .1 .1 .1 .0) e));
-      size-one = λ e. omega (arith, ltb-false 0 (f .clen) (and-right (eqb n 1) (ltb 0 (f .clen)) (k .1 .1 .1 .1 .0) (eq-eqb n 1 e)));
-    }
+first-kept n b h g k = coefficients-lawful (first n b) h g (k .1 .1)
 
 -- the fewest values behind control byte 1 are no more than those behind any lawful one
 least-first : (f : Fields) → LawfulFirst f → leastFor (f .n) ≤ leastValues f
@@ -180,12 +173,8 @@ nears-word more sign top run runs g =
 -- what the rules of control byte 2 leave
 pub second-kept : (f : Fields) (b : ℕ) → LawfulFirst f → Kept (control2Rows (second f b) b) → LawfulFields (second f b)
 second-kept f b g k =
-    let s = second f b in
-    record {
-      first = record { size-least = g .size-least; size-most = g .size-most; coefficient-length = g .coefficient-length; sparse = g .sparse; size-one = g .size-one };
-      deviation-length = not-false (allowed (s .sf) (s .slen)) (k .1 .1 .0);
-      some-length = either (eqb (s .slen) 0) (λ e. omega (arith, eqb-false (s .clen) 0 (and-right (eqb (s .slen) 0) (eqb (s .clen) 0) (k .1 .1 .1 .0) e))) (λ e. omega (arith, eqb-false (s .slen) 0 e));
-    }
+    deviations-lawful (second f b)
+    (record { size-least = g .size-least; size-most = g .size-most; coefficient-length = g .coefficient-length; sparse = g .sparse; size-one = g .size-one }) (k .1 .1)
 
 -- a pack with coefficients has two variables or more
 pub two-sizes : (f : Fields) → LawfulFirst f → 0 < f .clen → 2 ≤ f .n

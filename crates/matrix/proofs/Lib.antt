@@ -1,6 +1,7 @@
 pub mod Pairs
 pub mod Order
 pub mod BitVector
+pub mod FieldRules
 pub mod ControlBytes
 pub mod Begun
 pub mod WordRuns

@@ -7,6 +7,8 @@ use Rattle.matrix.proofs.read.Kinds as read
 use Rattle.matrix.proofs.read.Reads as read-reads
 use Rattle.matrix.proofs.walk.found_in.Kinds as found-in
 use Rattle.matrix.proofs.walk.found_in.Reads as found-in-reads
+use Rattle.matrix.proofs.judge.judge_fields.Kinds as judge-fields
+use Rattle.matrix.proofs.judge.judge_fields.Reads as judge-fields-reads
 
 pub verdict-only : OneAnswer verdict.ps verdict.r verdict-reads.Post
 verdict-only κs a x y s t p q = p ∙ sym q
@@ -16,3 +18,6 @@ read-only κs a x y s t p q = p ∙ sym q
 
 pub found-in-only : OneAnswer found-in.ps found-in.r found-in-reads.Post
 found-in-only κs a x y s t p q = p ∙ sym q
+
+pub judge-fields-only : OneAnswer judge-fields.ps judge-fields.r judge-fields-reads.Post
+judge-fields-only κs a x y s t p q = p ∙ sym q

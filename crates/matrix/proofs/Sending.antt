@@ -14,16 +14,17 @@ use Rattle.verdict.proofs.Judging.{Kept}
 use Rattle.verdict.specs.declared.Reason.{Reason}
 use Rattle.verdict.specs.declared.Verdict.the-variants.{Unfinished, Refused}
 use Rattle.matrix.specs.declared.Fields.{Fields}
-use Rattle.matrix.specs.declared.judge.Judged.the-variants.{Kept as JudgedKept, Broken}
+use Rattle.verdict.specs.declared.Judged.the-variants.{Kept as JudgedKept, Broken}
 use Rattle.matrix.specs.Meaning.{pairs, sum, LawfulFields}
 use Rattle.matrix.specs.Spelling.{bits, vectorBytes, marksOf}
 use Rattle.matrix.specs.Table.{vectorRows}
-use Rattle.matrix.specs.Judgement.{judgement}
+use Rattle.verdict.specs.Judgement.{judgement}
 use Rattle.matrix.specs.Machine.{vector, enter, wordsOf, allSent, enterValues, fewest, verdictAt, verdictBehind}
 use Rattle.matrix.specs.Walk.{SentBy}
 use Rattle.matrix.proofs.BitVector.{sum-same, sum-first, unused-none}
 use Rattle.matrix.proofs.Keeping.{all-most, vector-none, vector-some, vector-most}
-use Rattle.matrix.proofs.Judgements.{judgement-kept, behind-on, behind-kept, behind-broken}
+use Rattle.verdict.proofs.Deciding.{judgement-kept}
+use Rattle.matrix.proofs.Judgements.{behind-on, behind-kept, behind-broken}
 use Rattle.matrix.proofs.Ones.{ones-most}
 use Rattle.matrix.proofs.VectorRuns.{vector-through, vector-seen}
 

@@ -4,6 +4,5 @@ pub mod Spelling
 pub mod Pack
 pub mod Table
 pub mod Machine
-pub mod Judgement
 pub mod Reading
 pub mod Walk

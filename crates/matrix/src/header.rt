@@ -11,10 +11,10 @@ use crate::control::first_of;
 use crate::control::least_for;
 use crate::control::least_values;
 use crate::control::second_of;
-use crate::judge::Judged;
 use crate::judge::judge_control1;
 use crate::judge::judge_control2;
 use crate::judge::judge_size;
+use verdict::Judged;
 use verdict::Refusal;
 
 // Lawful fields, or why there are none.

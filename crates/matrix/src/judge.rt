@@ -5,15 +5,10 @@ ghost use Rattle.word.specs.Rules.{allowed};
 ghost use Rattle.matrix.specs.Meaning.{pairs};
 ghost use Rattle.matrix.specs.Spelling.{vectorBytes};
 ghost use Rattle.matrix.specs.Table.{sizeRows, coefficientRows, deviationRows, control1Rows, control2Rows, fieldRows, vectorRows};
-ghost use Rattle.matrix.specs.Judgement.{judgement};
+ghost use Rattle.verdict.specs.Judgement.{judgement};
 use crate::Fields;
+use verdict::Judged;
 use verdict::Reason;
-
-// All rules are kept, or the first that is broken has this reason.
-pub enum Judged {
-    Kept,
-    Broken(Reason),
-}
 
 // Whether a format allows a length.
 fn allows(mapped: bool, length: usize) -> bool

@@ -11,8 +11,8 @@ use crate::Fields;
 use crate::control::pairs_of;
 use crate::control::vector_bytes;
 use crate::header::byte;
-use crate::judge::Judged;
 use crate::judge::judge_vector;
+use verdict::Judged;
 use verdict::Refusal;
 
 // How many coefficients are sent, or why that is not known.

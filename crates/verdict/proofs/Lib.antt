@@ -5,5 +5,6 @@ pub mod Running
 pub mod Reaching
 pub mod Judging
 pub mod Putting
+pub mod Deciding
 pub mod OneAnswer
 pub mod Only

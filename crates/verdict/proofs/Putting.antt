@@ -3,14 +3,24 @@ use Prim.Native.Nat.{ℕ, suc, _+_, _≤_, _<_}
 use mathlib.Core.Path.{_≡_, _∙_, sym}
 use mathlib.Core.List.{List, [], _∷_, _++_, append-assoc}
 use native.Mathlib.Omega.{arith}
-use native.Mathlib.Nat.{add-assoc, add-zero}
+use native.Mathlib.Nat.{add-assoc, add-zero, zero-add}
 use lib.ListN.{length, take, drop, getD, set, length-append, length-take, length-drop, take-append-drop}
-use lib.Seq.{take-at, drop-append-add, drop-drop, take-suc, set-at, append-snoc, length-take-le, set-split}
+use lib.Seq.{take-at, drop-at, drop-append-add, drop-drop, take-suc, set-at, append-snoc, length-take-le, set-split}
 use Rattle.verdict.specs.Writing.{put}
 
 pub put-none : (out : List ℕ) (place : ℕ) → put out place [] ≡ out
 unfolding put
 put-none out place = rw add-zero (take-append-drop place out)
+
+-- at the front
+pub put-first : (out bytes : List ℕ) → put out 0 bytes ≡ bytes ++ drop (length bytes) out
+unfolding put
+put-first out bytes = rw zero-add
+
+-- behind the place stand the bytes that were put there
+pub drop-put : (out : List ℕ) (place : ℕ) (bytes : List ℕ) → place ≤ length out → drop place (put out place bytes) ≡ bytes ++ drop (place + length bytes) out
+unfolding put
+drop-put out place bytes h = drop-at (take place out) (bytes ++ drop (place + length bytes) out) place (length-take-le place out h)
 
 pub length-put : (out : List ℕ) (place : ℕ) (p : List ℕ) → place + length p ≤ length out → length (put out place p) ≡ length out
 unfolding put

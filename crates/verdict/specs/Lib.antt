@@ -3,3 +3,4 @@ pub mod Says
 pub mod Machine
 pub mod Rows
 pub mod Writing
+pub mod Judgement

@@ -4,7 +4,9 @@ use mathlib.Core.Path.{_≡_}
 use mathlib.Core.Bool.{cond}
 use mathlib.Core.List.{List, [], _∷_, _++_}
 use lib.ListN.{length, take, drop}
+use lib.Dec.{ltb}
 use Rattle.verdict.specs.declared.Reason.{Reason}
+use Rattle.verdict.specs.declared.Reason.the-variants.{SmallBuffer}
 use Rattle.verdict.specs.declared.Verdict.{Verdict}
 use Rattle.verdict.specs.declared.Verdict.the-variants.{Complete, Unfinished, Refused}
 use Rattle.verdict.specs.Rows.{Row}
@@ -21,6 +23,10 @@ refusing reason = Refused (record { reason = reason; place = 0 })
 unfoldable pub decided : List Row → Verdict → Verdict
 decided [] answer = answer
 decided (row ∷ rows) answer = cond (row .broken) (refusing (row .reason)) (decided rows answer)
+
+-- the last rule: 13 where fewer bytes are there than needed
+abbrev pub roomRows : ℕ → ℕ → List Row
+roomRows needed there = record { broken = ltb there needed; reason = SmallBuffer } ∷ []
 
 -- what a writer leaves: its bytes at the place where it succeeds, else what was there
 abbrev pub leftBy : Verdict → List ℕ → ℕ → List ℕ → List ℕ

@@ -41,6 +41,12 @@ pub enum Verdict {
     Refused(Refusal),
 }
 
+// What judging by rules in their order finds: all are kept, or the first that is broken has this reason.
+pub enum Judged {
+    Kept,
+    Broken(Reason),
+}
+
 // The number of a reason in document 01's table.
 pub fn number(reason: Reason) -> u64
     ensures { λ r. ⌜ r ≡ numberOf reason ⌝ }

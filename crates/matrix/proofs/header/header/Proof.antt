@@ -9,7 +9,7 @@ use Rattle.matrix.specs.Table.{sizeRows}
 use Rattle.matrix.specs.Machine.{size, step, least}
 use Rattle.matrix.specs.Walk.{HeadFrom}
 use Rattle.matrix.proofs.ControlBytes.{size-kept}
-use Rattle.matrix.proofs.Judgements.{judgement-kept}
+use Rattle.verdict.proofs.Deciding.{judgement-kept}
 use Rattle.matrix.proofs.Heading.{size-broken, size-next}
 use Rattle.matrix.proofs.header.header.Statement.{statement}
 use Rattle.matrix.proofs.header.header.Tie as tie

@@ -3,7 +3,7 @@ use mathlib.Core.Path.{_∙_, sym}
 use borrow.Author.Needs.{needs}
 use borrow.Author.Tests.{eq-eqb, ne-eqb, lt-ltb, le-ltb}
 use Rattle.matrix.specs.Table.{coefficientRows, deviationRows}
-use Rattle.matrix.proofs.Judgements.{judgement-on, judgement-off}
+use Rattle.verdict.proofs.Deciding.{judgement-on, judgement-off}
 use Rattle.matrix.proofs.judge.judge_fields.Statement.{statement}
 use Rattle.matrix.proofs.judge.judge_fields.Tie as tie
 

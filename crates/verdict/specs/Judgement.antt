@@ -1,9 +1,9 @@
--- What judging a byte by the rules of its field answers.
+-- What judging by rules in their order answers.
 use mathlib.Core.Bool.{cond}
 use mathlib.Core.List.{List, [], _∷_}
 use Rattle.verdict.specs.Rows.{Row}
-use Rattle.matrix.specs.declared.judge.Judged.{Judged}
-use Rattle.matrix.specs.declared.judge.Judged.the-variants.{Kept, Broken}
+use Rattle.verdict.specs.declared.Judged.{Judged}
+use Rattle.verdict.specs.declared.Judged.the-variants.{Kept, Broken}
 
 -- the first broken rule's reason
 abbrev pub judgement : List Row → Judged

@@ -1,0 +1,25 @@
+-- What a complete verdict gives: the bytes have a lawful meaning, and begin with its bytes. Assumes nothing.
+use Prim.Native.Nat.{ℕ, _≤_}
+use mathlib.Core.Path.{_≡_, subst}
+use mathlib.Core.List.{List}
+use lib.ListN.{length, take, drop, take-append-drop}
+use Rattle.verdict.specs.declared.Verdict.the-variants.{Complete}
+use Rattle.verdict.specs.Says.{Bytes, CompleteAt, Says}
+use Rattle.array.specs.Meaning.{Lawful}
+use Rattle.array.specs.Spelling.{bytesOf, ArrayPack}
+use Rattle.array.specs.Decoded.{meaningOf}
+use Rattle.array.specs.Table.{Why}
+use Rattle.array.specs.Machine.{verdictOf}
+use Rattle.array.proofs.Verdicts.{array-said}
+use Rattle.array.proofs.Decoding.{pack-meaning}
+
+module _ (bytes : List ℕ) (b : Bytes bytes) (n : ℕ) (e : verdictOf bytes ≡ Complete n) where
+  said : CompleteAt ArrayPack bytes n
+  said = subst (Says ArrayPack Why bytes) e (array-said bytes b)
+
+  pub complete-within : n ≤ length bytes
+  complete-within = said .within
+
+  pub complete-meaning : Lawful (meaningOf bytes) × (bytesOf (meaningOf bytes) ≡ take n bytes)
+  complete-meaning =
+      subst (λ (w : List ℕ). Lawful (meaningOf w) × (bytesOf (meaningOf w) ≡ take n bytes)) (take-append-drop n bytes) (pack-meaning (take n bytes) (drop n bytes) (said .pack))
