@@ -1,0 +1,83 @@
+-- Words and the bit vector put one after the other. Assumes nothing.
+use Prim.Native.Nat.{ℕ, _+_, _-_, _*_, _^_, _≤_, _<_}
+use mathlib.Core.Path.{_≡_, sym, ap, _∙_, subst}
+use mathlib.Core.List.{List, [], _∷_, _++_}
+use native.Mathlib.Nat.{one-mul, zero-mul, mul-le-mul-right}
+use native.Mathlib.Numerals.{add-one}
+use native.Mathlib.Omega.{arith}
+use borrow.Author.Tests.{le-ltb, lt-leb}
+use lib.ListN.{length, take, getD, set, replicate}
+use lib.Seq.{take-take}
+use Rattle.verdict.specs.declared.Verdict.{Verdict}
+use Rattle.verdict.specs.Writing.{put}
+use Rattle.verdict.proofs.Putting.{put-none, put-put, put-more, put-three, length-put}
+use Rattle.word.specs.Digits.{digits, valueOf}
+use Rattle.word.specs.Bytes.{Written}
+use Rattle.matrix.specs.declared.Fields.{Fields}
+use Rattle.matrix.specs.Meaning.{sum}
+use Rattle.matrix.specs.Spelling.{control1, control2, packed, spelled}
+use Rattle.matrix.proofs.BitVector.{length-packed}
+use Rattle.matrix.proofs.Decoding.{length-spelled, length-ones}
+use Rattle.unpack.proofs.Sums.{sum-more, sum-first-most}
+use Rattle.matrixwriter.proofs.Spelled.{spelled-more, all-spelled-more, packed-more, bitsFrom}
+
+-- a word that fits, where there is room
+pub word-put : (out : List ℕ) (place n word : ℕ) (answer : Verdict) (out′ : List ℕ) → n ≤ 8 → word < 256 ^ n → place + n ≤ length out → Written out place n word answer out′ → out′ ≡ put out place (digits 256 n word)
+word-put out place n word answer out′ h k l w = w .left ∙ rw (le-ltb 8 n h, lt-leb (256 ^ n) word k, le-ltb (length out - place) n (omega arith))
+
+-- a word whose mark is 0 has no bytes
+pub unsent-put : (out : List ℕ) (place size mark word : ℕ) → mark ≡ 0 → out ≡ put out place (digits 256 (mark * size) word)
+unfolding digits
+unsent-put out place size mark word e = rw (e, zero-mul size) (sym (put-none out place))
+
+pub sent-put : (out : List ℕ) (place size mark word : ℕ) (out′ : List ℕ) → mark ≡ 1 → out′ ≡ put out place (digits 256 size word) → out′ ≡ put out place (digits 256 (mark * size) word)
+sent-put out place size mark word out′ e p = rw (e, one-mul size) p
+
+pub header-put : (f : Fields) (out : List ℕ) (a b : ℕ) → a ≡ control1 f → b ≡ control2 f → 3 ≤ length out → set (set (set out 0 (f .n)) 1 a) 2 b ≡ put out 0 (f .n ∷ control1 f ∷ control2 f ∷ [])
+header-put f out a b e g h = rw (e, g) (put-three out 0 (f .n) (control1 f) (control2 f) (omega arith))
+
+-- ---- one after the other
+
+module _ (out₀ : List ℕ) (place : ℕ) where
+  -- bytes behind those that are put
+  pub behind : (p q : List ℕ) (k at : ℕ) (out out′ : List ℕ) → length p ≡ k → place + k ≤ length out₀ → at ≡ place + k → out ≡ put out₀ place p → out′ ≡ put out at q → out′ ≡ put out₀ place (p ++ q)
+  behind p q k at out out′ l room a e f = f ∙ rw (e, a, ← l) (put-put out₀ place p q (omega arith))
+
+  module _ (size : ℕ) (words : List ℕ) where
+    pub words-put-next : (i at : ℕ) (out out′ : List ℕ) → place + i * size ≤ length out₀ → at ≡ place + i * size → out ≡ put out₀ place (spelled size (replicate i 1) words)
+        → out′ ≡ put out at (digits 256 size (getD words i 0)) → out′ ≡ put out₀ place (spelled size (replicate (i + 1) 1) words)
+    words-put-next i at out out′ room a e f =
+        rw (add-one, all-spelled-more size i words) (behind (spelled size (replicate i 1) words) (digits 256 size (getD words i 0)) (i * size) at out out′ (length-ones size i words) room a e f)
+
+    pub words-put-length : (i : ℕ) (out : List ℕ) → place + i * size ≤ length out₀ → out ≡ put out₀ place (spelled size (replicate i 1) words) → length out ≡ length out₀
+    words-put-length i out room e = ap length e ∙ length-put out₀ place (spelled size (replicate i 1) words) (omega (arith, length-ones size i words))
+
+    module _ (marks : List ℕ) where
+      pub sent-put-next : (i at : ℕ) (out out′ : List ℕ) → i < length marks → place + sum (take i marks) * size ≤ length out₀ → at ≡ place + sum (take i marks) * size → out ≡ put out₀ place (spelled size (take i marks) words)
+          → out′ ≡ put out at (digits 256 (getD marks i 0 * size) (getD words i 0)) → out′ ≡ put out₀ place (spelled size (take (i + 1) marks) words)
+      sent-put-next i at out out′ h room a e f =
+          rw (add-one, spelled-more size marks words i h)
+          (behind (spelled size (take i marks) words) (digits 256 (getD marks i 0 * size) (getD words i 0)) (sum (take i marks) * size) at out out′ (length-spelled size (take i marks) words) room a e f)
+
+      pub sent-put-length : (i : ℕ) (out : List ℕ) → place + sum (take i marks) * size ≤ length out₀ → out ≡ put out₀ place (spelled size (take i marks) words) → length out ≡ length out₀
+      sent-put-length i out room e = ap length e ∙ length-put out₀ place (spelled size (take i marks) words) (omega (arith, length-spelled size (take i marks) words))
+
+-- the words that are sent before one, and with it
+module _ (marks : List ℕ) (size i : ℕ) where
+  pub sent-before : (n : ℕ) → i ≤ n → sum (take i marks) * size ≤ sum (take n marks) * size
+  sent-before n h = mul-le-mul-right size (rw (← take-take i n marks h) (sum-first-most (take n marks) i))
+
+  pub sent-with : i < length marks → sum (take (i + 1) marks) * size ≡ sum (take i marks) * size + getD marks i 0 * size
+  sent-with h = rw (add-one, sum-more marks i h) (omega arith)
+
+-- ---- the bit vector
+
+module _ (out₀ : List ℕ) (place : ℕ) (marks : List ℕ) where
+  pub vector-put-next : (i x : ℕ) (out : List ℕ) → place + i < length out₀ → x ≡ valueOf 2 (take 8 (bitsFrom marks (8 * i))) → out ≡ put out₀ place (packed i marks) → set out (place + i) x ≡ put out₀ place (packed (i + 1) marks)
+  vector-put-next i x out room b e =
+      let l = length-packed i marks in
+      rw (e, b, add-one, packed-more i marks) (subst (λ (k : ℕ). set (put out₀ place (packed i marks)) (place + k) (valueOf 2 (take 8 (bitsFrom marks (8 * i)))) ≡ put out₀ place (packed i marks ++ (valueOf 2 (take 8 (bitsFrom marks (8 * i))) ∷ []))) l
+      (put-more out₀ place (packed i marks) (valueOf 2 (take 8 (bitsFrom marks (8 * i)))) (omega arith)))
+
+  pub vector-put-length : (i : ℕ) (out : List ℕ) → place + i ≤ length out₀ → out ≡ put out₀ place (packed i marks) → length out ≡ length out₀
+  vector-put-length i out room e = ap length e ∙ length-put out₀ place (packed i marks) (omega (arith, length-packed i marks))

@@ -1,0 +1,102 @@
+-- `matrixwriter::put::put_given` meets its contract: each part has room behind the one before. Assumes nothing.
+use Prim.Native.Nat.{ℕ, _+_, _*_, _≤_}
+use mathlib.Core.Path.{_≡_, refl, sym, ap, subst}
+use native.Mathlib.Omega.{arith}
+use denote.Ref.{now}
+use lib.ListN.{length as count, take, getD}
+use Rattle.matrix.specs.Meaning.{pairs, sum, Lawful}
+use Rattle.matrix.specs.Spelling.{vectorBytes}
+use Rattle.matrix.proofs.Counts.{deviations-most}
+use Rattle.matrix.proofs.Decoding.{pack-length}
+use Rattle.matrix.proofs.Keeping.{vector-most}
+use Rattle.matrix.proofs.Pairs.{pairs-most}
+use Rattle.matrixwriter.specs.Given.{meaningGiven}
+use Rattle.matrixwriter.specs.Checking.{Sendable}
+use Rattle.matrixwriter.proofs.Parts.{vector-is, deviations-sendable, coefficients-sendable, parts-put}
+use borrow.Author.Needs.{needs}
+use Rattle.matrixwriter.proofs.put.put_given.Statement.{statement}
+use Rattle.matrixwriter.proofs.put.put_given.Tie as tie
+
+abbrev start : tie.After-pairs-of → tie.Start
+start p = p .before .before .before .before .before
+
+module _ (v : tie.After-vector-bytes) where
+  abbrev s : tie.Start
+  s = start (v .before)
+
+  lawful : Lawful (meaningGiven (s .args .f) (now (s .args .deviations)) (now (s .args .coefficients)) (now (s .args .marks)))
+  lawful = s .pre .1 .0
+
+  pairs-are : v .before .pairs-of .result ≡ pairs (s .args .f .n)
+  pairs-are = v .before .pairs-of .ensures
+
+  vector-bytes-are : v .vector-bytes .result ≡ vectorBytes (s .args .f)
+  vector-bytes-are = vector-is (s .args .f) (v .before .pairs-of .result) (v .vector-bytes .result) pairs-are (v .vector-bytes .ensures)
+
+  few : v .vector-bytes .result ≤ 252
+  few = omega (arith, vector-bytes-are, vector-most (s .args .f) (lawful .fields))
+
+  -- the parts have room
+  room : 3 + v .vector-bytes .result + s .args .f .n * s .args .f .slen + sum (take (pairs (s .args .f .n)) (now (s .args .marks))) * s .args .f .clen ≤ count (now (s .args .out))
+  room = omega (arith, vector-bytes-are, s .pre .1 .1, pack-length (meaningGiven (s .args .f) (now (s .args .deviations)) (now (s .args .coefficients)) (now (s .args .marks))))
+
+pairs-of-requires : tie.Need-pairs-of-requires
+pairs-of-requires c κs = search needs
+
+vector-bytes-requires : tie.Need-vector-bytes-requires
+vector-bytes-requires c κs = let s = start c in omega (arith, c .pairs-of .ensures, pairs-most (s .args .f .n) (s .pre .1 .0 .fields .first .size-most))
+
+add-first : tie.Need-add-first
+add-first c = omega (arith, few c)
+
+mul-second : tie.Need-mul-second
+mul-second c = let v = c .before in omega (arith, deviations-most (s v .args .f) (lawful v .fields))
+
+add-second : tie.Need-add-second
+add-second c = let v = c .before in omega (arith, few v, deviations-most (s v .args .f) (lawful v .fields))
+
+put-header-requires : tie.Need-put-header-requires
+put-header-requires c κs = let v = c .before .before in (lawful v .fields, omega (arith, room v))
+
+put-vector-requires : tie.Need-put-vector-requires
+put-vector-requires c κs =
+    let w = c .before .before .before in
+    let v = w .before .before .before in
+    (omega (arith, pairs-are v, s v .pre .0 .marks-enough), (few v, (omega (arith, room v), λ i. subst (λ (k : ℕ). getD (take k (now (s v .args .marks))) i 0 ≤ 1) (sym (pairs-are v)) (lawful v .values .mark-rule i))))
+
+put-deviations-requires : tie.Need-put-deviations-requires
+put-deviations-requires c κs =
+    let v = c .before .before .before .before .before .before .before .before .before .before in
+    let a = s v .args in
+    (deviations-sendable (a .f) (now (a .deviations)) (now (a .coefficients)) (now (a .marks)) (s v .pre .0) (lawful v), omega (arith, room v))
+
+put-sent-words-requires : tie.Need-put-sent-words-requires
+put-sent-words-requires c κs =
+    let v = c .before .before .before .before .before .before .before .before .before .before .before .before .before .before in
+    let a = s v .args in
+    let sendable = coefficients-sendable (a .f) (now (a .deviations)) (now (a .coefficients)) (now (a .marks)) (s v .pre .0) (lawful v) in (
+      subst (λ (k : ℕ). Sendable (a .f .clen) (take k (now (a .marks))) (now (a .coefficients))) (sym (pairs-are v)) sendable,
+      (
+        omega (arith, pairs-are v, s v .pre .0 .coefficients-enough),
+        (omega (arith, pairs-are v, s v .pre .0 .marks-enough), omega (arith, room v, ap (λ (k : ℕ). sum (take k (now (a .marks))) * a .f .clen) (pairs-are v))),
+      ),
+    )
+
+same-length : tie.Need-same-length
+same-length c = search needs
+
+returns : tie.Need-returns
+returns c =
+    let four = c .before .before in
+    let three = four .before .before .before .before in
+    let two = three .before .before .before .before in
+    let one = two .before .before .before .before in
+    let v = one .before .before .before in
+    let a = s v .args in
+    parts-put (a .f) (now (a .deviations)) (now (a .coefficients)) (now (a .marks)) (now (a .out)) (one .put-header .last .1 .0) (two .put-vector .last .0) (three .put-deviations .last .1 .1 .0) (four .put-sent-words .last .0)
+    (v .before .pairs-of .result) (v .vector-bytes .result) _ _ (s v .pre .1 .1) (pairs-are v) (vector-bytes-are v) refl refl (one .put-header .ensures) (two .put-vector .ensures) (three .put-deviations .ensures) (four .put-sent-words .ensures)
+
+pub put-given-spec : {M : Type 1} → statement M
+put-given-spec =
+    tie.close
+    (tie.spec pairs-of-requires vector-bytes-requires add-first mul-second add-second put-header-requires put-vector-requires put-deviations-requires put-sent-words-requires same-length returns)

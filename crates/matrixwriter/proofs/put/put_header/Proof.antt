@@ -1,0 +1,99 @@
+-- `matrixwriter::put::put_header` meets its contract: lawful fields fit in their bytes. Assumes nothing.
+use Prim.Native.Nat.{_<_}
+use native.Mathlib.Omega.{arith}
+use denote.Ref.{now}
+use lib.ListN.{length-set}
+use Rattle.matrix.specs.Spelling.{control1, control2}
+use Rattle.matrix.proofs.ControlBytes.{control1-byte, control2-byte}
+use Rattle.matrixwriter.proofs.Putting.{header-put}
+use borrow.Author.Needs.{needs}
+use Rattle.matrixwriter.proofs.put.put_header.Statement.{statement}
+use Rattle.matrixwriter.proofs.put.put_header.Tie as tie
+
+-- the control bytes are bytes
+byte1 : (s : tie.Start) → control1 (s .args .f) < 256
+byte1 s = control1-byte (s .args .f) (s .pre .0 .first)
+
+byte2 : (s : tie.Start) → control2 (s .args .f) < 256
+byte2 s = control2-byte (s .args .f) (s .pre .0)
+
+bit-of-requires : tie.Need-bit-of-requires
+bit-of-requires c κs = search needs
+
+mul-coefficients : tie.Need-mul-coefficients
+mul-coefficients c = omega (arith, byte1 (c .before .before))
+
+bit-of-requires-2 : tie.Need-bit-of-requires-2
+bit-of-requires-2 c κs = search needs
+
+mul-coefficients-2 : tie.Need-mul-coefficients-2
+mul-coefficients-2 c = omega (arith, byte1 (c .before .before .before))
+
+add-coefficients : tie.Need-add-coefficients
+add-coefficients c = omega (arith, byte1 (c .before .before .before .before))
+
+add-coefficients-2 : tie.Need-add-coefficients-2
+add-coefficients-2 c = omega (arith, byte1 (c .before .before .before .before))
+
+add-coefficients-3 : tie.Need-add-coefficients-3
+add-coefficients-3 c = omega (arith, byte1 (c .before .before .before .before))
+
+bit-of-requires-3 : tie.Need-bit-of-requires-3
+bit-of-requires-3 c κs = search needs
+
+mul-deviations : tie.Need-mul-deviations
+mul-deviations c = omega (arith, byte2 (c .before .before .before .before .before))
+
+add-deviations : tie.Need-add-deviations
+add-deviations c = omega (arith, byte2 (c .before .before .before .before .before .before))
+
+cast-out : tie.Need-cast-out
+cast-out c = search needs
+
+slice-write-out : tie.Need-slice-write-out
+slice-write-out c = search needs
+
+cast-out-2 : tie.Need-cast-out-2
+cast-out-2 c = omega (arith, byte1 (c .before .before .before .before .before .before .before))
+
+slice-write-out-2 : tie.Need-slice-write-out-2
+slice-write-out-2 c = rw length-set (omega (arith, c .before .before .before .before .before .before .before .pre .1))
+
+cast-out-3 : tie.Need-cast-out-3
+cast-out-3 c = omega (arith, byte2 (c .before .before .before .before .before .before .before))
+
+slice-write-out-3 : tie.Need-slice-write-out-3
+slice-write-out-3 c = search needs
+
+same-length : tie.Need-same-length
+same-length c = search needs
+
+returns : tie.Need-returns
+returns c =
+    let d = c .before .before in
+    let e = d .before .before in
+    let s = e .before .before .before in
+    header-put (s .args .f) (now (s .args .out)) _ _ (omega (arith, e .before .bit-of .ensures, e .bit-of2 .ensures)) (omega (arith, d .bit-of3 .ensures)) (s .pre .1)
+
+pub put-header-spec : {M : Type 1} → statement M
+put-header-spec =
+    tie.close
+    (tie.spec
+    bit-of-requires
+    mul-coefficients
+    bit-of-requires-2
+    mul-coefficients-2
+    add-coefficients
+    add-coefficients-2
+    add-coefficients-3
+    bit-of-requires-3
+    mul-deviations
+    add-deviations
+    cast-out
+    slice-write-out
+    cast-out-2
+    slice-write-out-2
+    cast-out-3
+    slice-write-out-3
+    same-length
+    returns)

@@ -1,0 +1,30 @@
+// Writing a matrix pack into a lent buffer: everything is checked before the first byte is written.
+ghost use Rattle.verdict.specs.Writing.{WrittenBy};
+ghost use Rattle.matrix.specs.Spelling.{bytesOf};
+ghost use Rattle.matrixwriter.specs.Given.{meaningGiven, writerRows};
+use crate::check::Checked;
+use crate::check::check;
+use crate::put::write_given;
+use matrix::Fields;
+use verdict::Refusal;
+use verdict::Verdict;
+
+mod check;
+mod put;
+
+// The pack of these fields, deviations, coefficients and marks: the count of its bytes, or a refusal that leaves `out` as it was.
+pub fn write(
+    fields: Fields,
+    deviations: &[u64],
+    coefficients: &[u64],
+    marks: &[u8],
+    out: &mut [u8],
+) -> Verdict
+    ensures { λ r. ⌜ WrittenBy (writerRows fields (now (deviations .entry)) (now (coefficients .entry)) (now (marks .entry)) (now (out .entry))) (bytesOf (meaningGiven fields (now (deviations .entry)) (now (coefficients .entry)) (now (marks .entry)))) (now (out .entry)) 0 r (now (out .exit)) ⌝ }
+{
+    let checked = check(fields, deviations, coefficients, marks);
+    match checked {
+        Checked::Sent(sent) => write_given(fields, sent, deviations, coefficients, marks, out),
+        Checked::Broken(reason) => Verdict::Refused(Refusal { reason, place: 0 }),
+    }
+}
