@@ -6,6 +6,7 @@
 //     reference report             the report on lines of frames
 //     reference rows               the verdicts on rows of pack bytes
 //     reference make-rows          the rows that the project runs
+//     reference make-again         rows of the packs of lines that are OK, to be written again
 //     reference make-lines         lines of frames at the edges of every rule
 //     reference corpus SEED COUNT  lines of frames, good and bad, from a seed
 //     reference tally              how often each word and reason occurs in a report
@@ -21,6 +22,7 @@ mod matrix;
 mod rows;
 mod values;
 mod verdict;
+mod writes;
 
 use std::collections::BTreeMap;
 use std::io::{self, BufRead, BufWriter, Write};
@@ -57,7 +59,7 @@ fn tally(input: &mut dyn BufRead, output: &mut dyn Write) -> io::Result<()> {
 
 fn usage() -> ! {
     eprintln!(
-        "usage: reference report | rows | make-rows | make-lines | corpus SEED COUNT | tally | check SEED COUNT"
+        "usage: reference report | rows | make-rows | make-again | make-lines | corpus SEED COUNT | tally | check SEED COUNT"
     );
     std::process::exit(2);
 }
@@ -76,6 +78,7 @@ fn main() {
         Some("report") => frame::report(&mut input, &mut output),
         Some("rows") => rows::run(&mut input, &mut output),
         Some("make-rows") => rows::make(&mut output),
+        Some("make-again") => writes::again(&mut input, &mut output),
         Some("make-lines") => lines::make(&mut output),
         Some("corpus") => corpus::print(number(1), number(2), &mut output),
         Some("tally") => tally(&mut input, &mut output),

@@ -5,7 +5,7 @@ use crate::corpus::greatest_word;
 use crate::frame::{bytes_of_hex, hex_of_bytes};
 use crate::matrix::{allowed_lengths, coefficient_count, vector_length, Role};
 use crate::verdict::Verdict;
-use crate::{address, array, matrix, values};
+use crate::{address, array, matrix, values, writes};
 use std::collections::HashSet;
 use std::io::{self, BufRead, Write};
 
@@ -19,8 +19,13 @@ pub fn run(input: &mut dyn BufRead, output: &mut dyn Write) -> io::Result<()> {
         let said = match kind {
             'A' => Some(addressed(&line).ok_or_else(wrong)?),
             'U' | 'E' | 'C' => Some(values::said(&line).ok_or_else(wrong)?),
+            'W' | 'X' => Some(writes::said(&line).ok_or_else(wrong)?),
             _ => None,
         };
+        if kind == 'R' || kind == 'Q' {
+            writeln!(output, "{} {} same", kind, (line.len() - 2) / 2)?;
+            continue;
+        }
         if let Some(said) = said {
             writeln!(output, "{} {}", line, said)?;
             continue;
@@ -782,7 +787,8 @@ pub fn make(output: &mut dyn Write) -> io::Result<()> {
     array_elements(&mut rows);
     array_bodies(&mut rows);
     rows.print(output)?;
-    for row in address::make().iter().chain(&values::make()) {
+    let others = [address::make(), values::make(), writes::make()];
+    for row in others.iter().flatten() {
         writeln!(output, "{}", row)?;
     }
     Ok(())

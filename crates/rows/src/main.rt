@@ -1,13 +1,17 @@
 // Runs rows of bytes through the readers and says what each gives: the verdict on "S HEX", a matrix pack, and "M HEX", an array pack
 // ("s HEX", "m HEX": on every beginning too); "A HEX COUNT INDEX ..": an array pack of these bytes and so many of 0, read and addressed.
 // "U HEX D C M" a matrix pack unpacked into lists of these lengths, "E HEX W M" expanded, "C HEX" its scaled coefficients.
+// "R HEX" a matrix pack and "Q HEX" an array pack, read and written again. "W HEX" writes the matrix and "X HEX" the array that these bytes give.
 ghost use Prim.Native.Nat.{_+_, _*_, _≤_, _<_};
+ghost use mathlib.Core.Path.{_≡_};
 ghost use lib.ListN.{length};
 use libc::STDIN_FILENO;
 use libc::STDOUT_FILENO;
 use verdict::Verdict;
 
+mod again;
 mod values;
+mod writes;
 
 // The value of a hexadecimal digit, 16 for any other character.
 fn digit(c: u8) -> u8
@@ -172,7 +176,7 @@ fn zeros(out: &mut [u8], from: usize, count: usize) -> usize
     at
 }
 
-fn say_number(number: usize) {
+pub(crate) fn say_number(number: usize) {
     io::print_decimal(STDOUT_FILENO, number as u64);
     io::write_all(STDOUT_FILENO, b" ");
 }
@@ -246,7 +250,11 @@ fn row(text: &[u8], out: &mut [u8]) {
         65 => address_row(text, out),
         67 => values::scaled_row(text, out),
         69 => values::expand_row(text, out),
+        81 => again::again_row(text, out),
+        82 => again::again_row(text, out),
         85 => values::unpack_row(text, out),
+        87 => writes::write_row(text, out),
+        88 => writes::write_row(text, out),
         _ => pack_row(text, out),
     }
 }
@@ -266,18 +274,71 @@ fn line_end(text: &[u8], from: usize) -> usize
     i
 }
 
-fn rows(text: &[u8], out: &mut [u8]) {
+// The lines that are closed: where the open one begins.
+fn rows(text: &[u8], out: &mut [u8]) -> usize
+    ensures { λ r. ⌜ r ≤ length (now (text .entry)) ⌝ }
+{
     let mut from = 0;
     while from < text.len() {
         let to = line_end(text, from);
+        if to == text.len() {
+            return from;
+        }
         row(&text[from..to], out);
         from = to + 1;
+    }
+    from
+}
+
+// The bytes between two places, at the front.
+fn to_front(text: &mut [u8], from: usize, to: usize)
+    requires { ⌜ (from ≤ to) × (to ≤ length (now text)) ⌝ }
+    ensures { λ _. ⌜ length (now (text .exit)) ≡ length (now (text .entry)) ⌝ }
+{
+    let mut i = from;
+    while i < to {
+        text[i - from] = text[i];
+        i += 1;
+    }
+}
+
+// Where the program stands: whether there was more to read, and how much of an open line is held.
+struct Turn {
+    more: bool,
+    held: usize,
+}
+
+// One read, with the rows that it closes.
+fn take_turn(held: usize, text: &mut [u8], out: &mut [u8]) -> Turn
+    requires { ⌜ held ≤ length (now text) ⌝ }
+    ensures { λ r. ⌜ (r .held ≤ length (now (text .entry))) × (length (now (text .exit)) ≡ length (now (text .entry))) ⌝ }
+{
+    let got = io::read_full(STDIN_FILENO, &mut text[held..]);
+    let whole = held + got;
+    let from = rows(&text[..whole], out);
+    to_front(text, from, whole);
+    Turn {
+        more: got > 0,
+        held: whole - from,
+    }
+}
+
+// Reads to the end of the input; the count of turns is more than any input takes.
+fn run(text: &mut [u8], out: &mut [u8]) {
+    let mut turn = Turn {
+        more: true,
+        held: 0,
+    };
+    let mut turns = u64::MAX;
+    while turns > 0 && turn.more {
+        let held = turn.held;
+        turn = take_turn(held, text, out);
+        turns -= 1;
     }
 }
 
 fn main() {
-    let mut text = [0u8; 524288];
+    let mut text = [0u8; 131072];
     let mut out = [0u8; 65536];
-    let n = io::read_full(STDIN_FILENO, &mut text);
-    rows(&text[..n], &mut out);
+    run(&mut text, &mut out);
 }

@@ -22,7 +22,7 @@ fn fill_words(list: &mut [u64]) {
     }
 }
 
-fn fill_marks(list: &mut [u8]) {
+pub(crate) fn fill_marks(list: &mut [u8]) {
     let mut i = 0;
     while i < list.len() {
         list[i] = CANARY_MARK;
@@ -41,7 +41,7 @@ fn kept_words(list: &[u64], count: usize) -> bool {
     kept
 }
 
-fn kept_marks(list: &[u8], count: usize) -> bool {
+pub(crate) fn kept_marks(list: &[u8], count: usize) -> bool {
     let mut kept = true;
     let mut i = 0;
     while i < list.len() {
@@ -64,7 +64,7 @@ fn say_words(list: &[u64], count: usize) {
     }
 }
 
-fn say_marks(list: &[u8], count: usize) {
+pub(crate) fn say_marks(list: &[u8], count: usize) {
     let mut i = 1;
     while i < list.len() {
         if count < i {
@@ -76,7 +76,7 @@ fn say_marks(list: &[u8], count: usize) {
     }
 }
 
-fn say_kept(kept: bool) {
+pub(crate) fn say_kept(kept: bool) {
     if kept {
         io::write_all(STDOUT_FILENO, b" kept\n");
         return;
@@ -84,7 +84,7 @@ fn say_kept(kept: bool) {
     io::write_all(STDOUT_FILENO, b" lost\n");
 }
 
-fn least(a: usize, b: usize) -> usize
+pub(crate) fn least(a: usize, b: usize) -> usize
     ensures { λ r. ⌜ r ≤ b ⌝ }
 {
     if a < b { a } else { b }

@@ -1,0 +1,148 @@
+// Rows of writing: what a writer is given stands in the row's bytes, and its buffer is lent from the middle of a longer one.
+ghost use Prim.Native.Nat.{_+_, _*_, _≤_};
+ghost use lib.ListN.{length};
+use crate::decode;
+use crate::say_verdict;
+use crate::values::fill_marks;
+use crate::values::kept_marks;
+use crate::values::least;
+use crate::values::say_kept;
+use crate::values::say_marks;
+use libc::STDOUT_FILENO;
+use matrix::Fields;
+use verdict::Verdict;
+use word::bytes::Read;
+use word::bytes::read_at;
+
+// The number of so many bytes at a place, 0 where they are not there.
+fn number_at(bytes: &[u8], place: usize, length: usize) -> u64 {
+    let read = read_at(bytes, place, length);
+    match read {
+        Read::Word(word) => word,
+        Read::Unfinished(_) => 0,
+        Read::Refused(_) => 0,
+    }
+}
+
+// A list's entries from a place on, eight bytes each.
+fn words_from(bytes: &[u8], from: usize, list: &mut [u64])
+    requires { ⌜ from + 8 * length (now list) ≤ 10000 ⌝ }
+{
+    let mut place = from;
+    let mut i = 0;
+    while i < list.len() {
+        list[i] = number_at(bytes, place, 8);
+        place += 8;
+        i += 1;
+    }
+}
+
+fn sizes_from(bytes: &[u8], from: usize, list: &mut [usize])
+    requires { ⌜ from + 8 * length (now list) ≤ 10000 ⌝ }
+{
+    let mut place = from;
+    let mut i = 0;
+    while i < list.len() {
+        list[i] = number_at(bytes, place, 8) as usize;
+        place += 8;
+        i += 1;
+    }
+}
+
+// How many bytes were written; at most so many are looked at.
+fn written(said: Verdict, most: usize) -> usize
+    ensures { λ r. ⌜ r ≤ most ⌝ }
+{
+    match said {
+        Verdict::Complete(n) => least(n, most),
+        Verdict::Unfinished(_) => 0,
+        Verdict::Refused(_) => 0,
+    }
+}
+
+// The answer, the first bytes written, and whether all others are as they were.
+fn say_written(said: Verdict, out: &[u8]) {
+    say_verdict(said);
+    say_marks(out, written(said, 64));
+    say_kept(kept_marks(out, written(said, 65536)));
+}
+
+fn small_at(bytes: &[u8], place: usize) -> usize {
+    number_at(bytes, place, 1) as usize
+}
+
+fn fields_of(bytes: &[u8]) -> Fields {
+    Fields {
+        n: small_at(bytes, 0),
+        cs: small_at(bytes, 1) == 1,
+        cf: small_at(bytes, 2) == 1,
+        clen: small_at(bytes, 3),
+        sf: small_at(bytes, 4) == 1,
+        slen: small_at(bytes, 5),
+    }
+}
+
+// A byte each: N, Cs, Cf, Clen, Sf, Slen, the room, how many deviations, coefficients and marks; then these, a mark being a byte.
+fn matrix_written(bytes: &[u8]) {
+    let mut deviations = [0u64; 64];
+    let mut coefficients = [0u64; 64];
+    let mut out = [0u8; 512];
+    let room = least(small_at(bytes, 6), 500);
+    let d = least(small_at(bytes, 7), 64);
+    let c = least(small_at(bytes, 8), 64);
+    let m = small_at(bytes, 9);
+    let behind = 10 + 8 * d + 8 * c;
+    words_from(bytes, 10, &mut deviations);
+    words_from(bytes, 10 + 8 * d, &mut coefficients);
+    fill_marks(&mut out);
+    if m > 255 {
+        return;
+    }
+    if bytes.len() < behind + m {
+        return;
+    }
+    let said = matrixwriter::write(
+        fields_of(bytes),
+        &deviations[..d],
+        &coefficients[..c],
+        &bytes[behind..behind + m],
+        &mut out[1..1 + room],
+    );
+    say_written(said, &out);
+}
+
+// A byte for how many sizes; then in eight bytes each these, E, the length of the array (its bytes are 7) and the room.
+fn array_written(bytes: &[u8]) {
+    let mut sizes = [0usize; 16];
+    let mut out = [0u8; 33024];
+    let array = [7u8; 33024];
+    let dims = least(small_at(bytes, 0), 16);
+    let behind = 1 + 8 * dims;
+    sizes_from(bytes, 1, &mut sizes);
+    fill_marks(&mut out);
+    let element = number_at(bytes, behind, 8) as usize;
+    let count = least(number_at(bytes, behind + 8, 8) as usize, 33000);
+    let room = least(number_at(bytes, behind + 16, 8) as usize, 33000);
+    let said = arraywriter::write(
+        &sizes[..dims],
+        element,
+        &array[..count],
+        &mut out[1..1 + room],
+    );
+    say_written(said, &out);
+}
+
+// A row of writing a matrix, "W", or an array.
+pub(crate) fn write_row(text: &[u8], out: &mut [u8])
+    requires { ⌜ 2 ≤ length (now text) ⌝ }
+{
+    let kind = text[0];
+    let n = decode(text, 2, out);
+    io::write_all(STDOUT_FILENO, text);
+    io::write_all(STDOUT_FILENO, b" ");
+    if kind == 87 {
+        matrix_written(&out[..n]);
+        return;
+    }
+    array_written(&out[..n]);
+}
