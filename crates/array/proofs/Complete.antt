@@ -1,8 +1,9 @@
 -- What a complete verdict gives: the bytes have a lawful meaning, and begin with its bytes. Assumes nothing.
-use Prim.Native.Nat.{ℕ, _≤_}
-use mathlib.Core.Path.{_≡_, subst}
+use Prim.Native.Nat.{ℕ}
+use mathlib.Core.Path.{_≡_, ap, _∙_, subst}
 use mathlib.Core.List.{List}
 use lib.ListN.{length, take, drop, take-append-drop}
+use lib.Seq.{length-take-le}
 use Rattle.verdict.specs.declared.Verdict.the-variants.{Complete}
 use Rattle.verdict.specs.Says.{Bytes, CompleteAt, Says}
 use Rattle.array.specs.Meaning.{Lawful}
@@ -17,9 +18,10 @@ module _ (bytes : List ℕ) (b : Bytes bytes) (n : ℕ) (e : verdictOf bytes ≡
   said : CompleteAt ArrayPack bytes n
   said = subst (Says ArrayPack Why bytes) e (array-said bytes b)
 
-  pub complete-within : n ≤ length bytes
-  complete-within = said .within
-
   pub complete-meaning : Lawful (meaningOf bytes) × (bytesOf (meaningOf bytes) ≡ take n bytes)
   complete-meaning =
       subst (λ (w : List ℕ). Lawful (meaningOf w) × (bytesOf (meaningOf w) ≡ take n bytes)) (take-append-drop n bytes) (pack-meaning (take n bytes) (drop n bytes) (said .pack))
+
+  -- and so many bytes
+  pub complete-count : length (bytesOf (meaningOf bytes)) ≡ n
+  complete-count = ap length (complete-meaning .1) ∙ length-take-le n bytes (said .within)

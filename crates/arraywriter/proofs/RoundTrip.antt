@@ -6,7 +6,6 @@ use mathlib.Core.List.{List, _++_}
 use native.Mathlib.Omega.{arith}
 use borrow.Author.Tests.{le-ltb, ltb-false}
 use lib.ListN.{length, take, drop}
-use lib.Seq.{length-take-le}
 use Rattle.verdict.specs.declared.Verdict.{Verdict}
 use Rattle.verdict.specs.declared.Verdict.the-variants.{Complete}
 use Rattle.verdict.specs.Says.{Bytes}
@@ -19,7 +18,7 @@ use Rattle.array.specs.Decoded.{meaningOf}
 use Rattle.array.specs.Machine.{verdictOf}
 use Rattle.array.proofs.Verdicts.{array-complete}
 use Rattle.array.proofs.Decoding.{meaning-back}
-use Rattle.array.proofs.Complete.{complete-within, complete-meaning}
+use Rattle.array.proofs.Complete.{complete-meaning, complete-count}
 use Rattle.arraywriter.specs.Given.{meaningGiven, givenRows, writerRows}
 use Rattle.arraywriter.proofs.Given.{given-lawful, lawful-given}
 
@@ -59,6 +58,6 @@ pub read-written : (bytes : List ℕ) → Bytes bytes → (n : ℕ) → verdictO
     → (answer ≡ Complete n) × (out′ ≡ take n bytes ++ drop n out)
 read-written bytes b n e out h answer out′ w =
     let m = complete-meaning bytes b n e in
-    let count : length (bytesOf (meaningOf bytes)) ≡ n = ap length (m .1) ∙ length-take-le n bytes (complete-within bytes b n e) in
+    let count : length (bytesOf (meaningOf bytes)) ≡ n = complete-count bytes b n e in
     let x = lawful-written (meaningOf bytes) out answer out′ (m .0) (omega arith) w in
     (x .0 ∙ ap Complete count, x .1 ∙ rw (count, m .1))

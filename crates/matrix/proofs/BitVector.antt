@@ -18,7 +18,7 @@ use Rattle.matrix.specs.Meaning.{pairs, sum, Matrix, LawfulValues}
 use Rattle.matrix.specs.Spelling.{packed, bits}
 
 -- zeros behind a list are as good as none
-getD-zeros : (xs : List ℕ) (n i : ℕ) → getD (xs ++ replicate n 0) i 0 ≡ getD xs i 0
+pub getD-zeros : (xs : List ℕ) (n i : ℕ) → getD (xs ++ replicate n 0) i 0 ≡ getD xs i 0
 getD-zeros [] zero i = refl
 getD-zeros [] (suc n) zero = refl
 getD-zeros [] (suc n) (suc i) = getD-zeros [] n i

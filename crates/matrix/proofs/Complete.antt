@@ -5,7 +5,7 @@ use mathlib.Core.List.{List}
 use lib.ListN.{length, take, drop, take-append-drop}
 use lib.Seq.{length-take-le}
 use Rattle.verdict.specs.declared.Verdict.the-variants.{Complete}
-use Rattle.verdict.specs.Says.{Bytes, Says}
+use Rattle.verdict.specs.Says.{Bytes, CompleteAt, Says}
 use Rattle.matrix.specs.Meaning.{Lawful}
 use Rattle.matrix.specs.Spelling.{bytesOf, meaningOf}
 use Rattle.matrix.specs.Pack.{MatrixPack}
@@ -14,13 +14,14 @@ use Rattle.matrix.specs.Machine.{verdictOf}
 use Rattle.matrix.proofs.Verdicts.{matrix-said}
 use Rattle.matrix.proofs.Decoding.{pack-meaning}
 
-pub complete-meaning : (bytes : List ℕ) → Bytes bytes → (n : ℕ) → verdictOf bytes ≡ Complete n → Lawful (meaningOf bytes) × (bytesOf (meaningOf bytes) ≡ take n bytes)
-complete-meaning bytes b n e =
-    let said : Says MatrixPack Why bytes (Complete n) = subst (Says MatrixPack Why bytes) e (matrix-said bytes b) in
-    subst (λ (w : List ℕ). Lawful (meaningOf w) × (bytesOf (meaningOf w) ≡ take n bytes)) (take-append-drop n bytes) (pack-meaning (take n bytes) (drop n bytes) (said .pack))
+module _ (bytes : List ℕ) (b : Bytes bytes) (n : ℕ) (e : verdictOf bytes ≡ Complete n) where
+  said : CompleteAt MatrixPack bytes n
+  said = subst (Says MatrixPack Why bytes) e (matrix-said bytes b)
 
--- and so many bytes
-pub complete-count : (bytes : List ℕ) → Bytes bytes → (n : ℕ) → verdictOf bytes ≡ Complete n → length (bytesOf (meaningOf bytes)) ≡ n
-complete-count bytes b n e =
-    let said : Says MatrixPack Why bytes (Complete n) = subst (Says MatrixPack Why bytes) e (matrix-said bytes b) in
-    ap length (complete-meaning bytes b n e .1) ∙ length-take-le n bytes (said .within)
+  pub complete-meaning : Lawful (meaningOf bytes) × (bytesOf (meaningOf bytes) ≡ take n bytes)
+  complete-meaning =
+      subst (λ (w : List ℕ). Lawful (meaningOf w) × (bytesOf (meaningOf w) ≡ take n bytes)) (take-append-drop n bytes) (pack-meaning (take n bytes) (drop n bytes) (said .pack))
+
+  -- and so many bytes
+  pub complete-count : length (bytesOf (meaningOf bytes)) ≡ n
+  complete-count = ap length (complete-meaning .1) ∙ length-take-le n bytes (said .within)

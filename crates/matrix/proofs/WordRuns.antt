@@ -106,7 +106,7 @@ module _ (rule : Rule) (sound : Sound rule) (none : ℕ) (runs : List Run) where
   words-accepted (suc (suc mark) ∷ marks) l = absurd (omega (arith, l 0))
 
 -- the marks of deviations are all 1
-getD-ones : (n i : ℕ) → getD (replicate n 1) i 0 ≡ min 1 (n - i)
+pub getD-ones : (n i : ℕ) → getD (replicate n 1) i 0 ≡ min 1 (n - i)
 getD-ones zero i = omega arith
 getD-ones (suc n) zero = omega arith
 getD-ones (suc n) (suc i) = omega (arith, getD-ones n i)

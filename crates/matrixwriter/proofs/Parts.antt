@@ -1,10 +1,10 @@
 -- The parts of a pack that is given: that each can be sent, and that they make up its bytes. Assumes nothing.
-use Prim.Native.Nat.{ℕ, zero, suc, _+_, _*_, _/_, _^_, _≤_, _<_, min}
+use Prim.Native.Nat.{ℕ, suc, _+_, _*_, _/_, _^_, _≤_, _<_, min}
 use mathlib.Core.Path.{_≡_, refl, sym, ap, _∙_, subst}
 use mathlib.Core.Bool.{cond}
 use mathlib.Core.List.{List, [], _∷_, _++_, append-assoc}
 use native.Mathlib.Omega.{arith}
-use lib.ListN.{length, take, getD, replicate, length-append}
+use lib.ListN.{length, take, getD, length-append}
 use Rattle.verdict.specs.Writing.{put}
 use Rattle.verdict.proofs.Cases.{either}
 use Rattle.word.specs.Rules.{deviationRule, coefficientRule}
@@ -16,6 +16,7 @@ use Rattle.matrix.proofs.BitVector.{length-packed}
 use Rattle.matrix.proofs.ControlBytes.{clen-small, slen-small}
 use Rattle.matrix.proofs.Decoding.{length-ones, pack-length}
 use Rattle.matrix.proofs.Pairs.{pairs-most}
+use Rattle.matrix.proofs.WordRuns.{getD-ones}
 use Rattle.matrixwriter.specs.Given.{meaningGiven}
 use Rattle.matrixwriter.specs.Checking.{Enough, Sendable, Deviated}
 use Rattle.matrixwriter.proofs.Entries.{sent-at}
@@ -32,17 +33,6 @@ sum-marks : (marks : List ℕ) → ((i : ℕ) → getD marks i 0 ≤ 1) → sum 
 unfolding sum
 sum-marks [] h = omega arith
 sum-marks (mark ∷ marks) h = omega (arith, h 0, sum-marks marks (λ i. h (suc i)))
-
--- a place among n ones
-ones-within : (n i : ℕ) → getD {A = ℕ} (replicate n 1) i 0 ≡ 1 → i < n
-ones-within zero i e = absurd (omega arith)
-ones-within (suc n) zero e = omega arith
-ones-within (suc n) (suc i) e = omega (arith, ones-within n i e)
-
-ones-most : (n i : ℕ) → getD {A = ℕ} (replicate n 1) i 0 ≤ 1
-ones-most zero i = omega arith
-ones-most (suc n) zero = omega arith
-ones-most (suc n) (suc i) = ones-most n i
 
 module _ (f : Fields) (deviations coefficients marks : List ℕ) where
   abbrev m : Matrix
@@ -65,10 +55,10 @@ module _ (f : Fields) (deviations coefficients marks : List ℕ) where
           sendable =
               λ some. record {
                 short = slen-small f (lawful .fields);
-                marked = ones-most (f .n);
+                marked = λ i. omega (arith, getD-ones (f .n) i);
                 fitting =
                     λ i e.
-                    let h = ones-within (f .n) i e in
+                    let h : i < f .n = omega (arith, getD-ones (f .n) i) in
                     let allowed = lawful .fields .deviation-length in
                     let one : min 1 (f .slen) ≡ 1 = omega arith in
                     let word : getD (m .deviations) i 0 ≡ getD deviations i 0 = deviation-here f deviations coefficients marks i h ∙ rw one in

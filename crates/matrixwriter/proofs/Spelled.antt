@@ -16,6 +16,7 @@ use Rattle.matrix.specs.declared.Fields.{Fields}
 use Rattle.matrix.specs.Spelling.{packed, spelled}
 use Rattle.matrixwriter.specs.Given.{sentWords, deviationMarks}
 use Rattle.matrixwriter.proofs.Entries.{next-entry}
+use Rattle.matrix.proofs.BitVector.{getD-zeros}
 
 -- ---- words
 
@@ -72,21 +73,13 @@ packed-more (suc k) marks =
 
 -- ---- the bits of a byte
 
--- zeros behind a list are as good as none
-zeros-behind : (xs : List ℕ) (n i : ℕ) → getD (xs ++ replicate n 0) i 0 ≡ getD xs i 0
-zeros-behind [] zero i = refl
-zeros-behind [] (suc n) zero = refl
-zeros-behind [] (suc n) (suc i) = zeros-behind [] n i
-zeros-behind (x ∷ xs) n zero = refl
-zeros-behind (x ∷ xs) n (suc i) = zeros-behind xs n i
-
 -- eight marks from a pair on, and zeros where there are no more
 module _ (marks : List ℕ) (pair : ℕ) where
   abbrev pub bitsFrom : List ℕ
   bitsFrom = drop pair marks ++ replicate 8 0
 
   bit-at : (i : ℕ) → getD bitsFrom i 0 ≡ getD marks (pair + i) 0
-  bit-at i = zeros-behind (drop pair marks) 8 i ∙ getD-drop pair marks i 0
+  bit-at i = getD-zeros (drop pair marks) 8 i ∙ getD-drop pair marks i 0
 
   pub bits-next : (i value mark : ℕ) → i < 8 → value ≡ valueOf 2 (take i bitsFrom) → mark ≡ getD marks (pair + i) 0 → value * 2 + mark ≡ valueOf 2 (take (i + 1) bitsFrom)
   bits-next i value mark h e m =

@@ -37,16 +37,23 @@ fn words_from(bytes: &[u8], from: usize, list: &mut [u64])
     }
 }
 
-fn sizes_from(bytes: &[u8], from: usize, list: &mut [usize])
-    requires { ⌜ from + 8 * length (now list) ≤ 10000 ⌝ }
-{
-    let mut place = from;
-    let mut i = 0;
-    while i < list.len() {
-        list[i] = number_at(bytes, place, 8) as usize;
-        place += 8;
-        i += 1;
-    }
+fn size_at(bytes: &[u8], place: usize) -> usize {
+    number_at(bytes, place, 8) as usize
+}
+
+// One size more than there can be.
+fn sizes_of(bytes: &[u8]) -> [usize; 9] {
+    [
+        size_at(bytes, 1),
+        size_at(bytes, 9),
+        size_at(bytes, 17),
+        size_at(bytes, 25),
+        size_at(bytes, 33),
+        size_at(bytes, 41),
+        size_at(bytes, 49),
+        size_at(bytes, 57),
+        size_at(bytes, 65),
+    ]
 }
 
 // How many bytes were written; at most so many are looked at.
@@ -113,16 +120,15 @@ fn matrix_written(bytes: &[u8]) {
 
 // A byte for how many sizes; then in eight bytes each these, E, the length of the array (its bytes are 7) and the room.
 fn array_written(bytes: &[u8]) {
-    let mut sizes = [0usize; 16];
     let mut out = [0u8; 33024];
     let array = [7u8; 33024];
-    let dims = least(small_at(bytes, 0), 16);
+    let dims = least(small_at(bytes, 0), 9);
     let behind = 1 + 8 * dims;
-    sizes_from(bytes, 1, &mut sizes);
+    let sizes = sizes_of(bytes);
     fill_marks(&mut out);
-    let element = number_at(bytes, behind, 8) as usize;
-    let count = least(number_at(bytes, behind + 8, 8) as usize, 33000);
-    let room = least(number_at(bytes, behind + 16, 8) as usize, 33000);
+    let element = size_at(bytes, behind);
+    let count = least(size_at(bytes, behind + 8), 33000);
+    let room = least(size_at(bytes, behind + 16), 33000);
     let said = arraywriter::write(
         &sizes[..dims],
         element,

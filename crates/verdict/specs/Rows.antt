@@ -1,4 +1,4 @@
--- A table of rules for one byte, in their order, each with its reason.
+-- Rules in their order, each with its reason: those of one byte, or of what a writer is given.
 use mathlib.Core.Path.{_≡_}
 use mathlib.Core.Bool.{Bool, cond}
 use mathlib.Core.List.{List, [], _∷_}

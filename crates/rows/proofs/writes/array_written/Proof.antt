@@ -20,11 +20,8 @@ mul-behind c = search needs
 add-behind : tie.Need-add-behind
 add-behind c = search needs
 
-slice-aggregate-sizes-from : tie.Need-slice-aggregate-sizes-from
-slice-aggregate-sizes-from c = search needs
-
-sizes-from-requires : tie.Need-sizes-from-requires
-sizes-from-requires c κs = search needs
+sizes-of-requires : tie.Need-sizes-of-requires
+sizes-of-requires c κs = search needs
 
 slice-aggregate-fill-marks : tie.Need-slice-aggregate-fill-marks
 slice-aggregate-fill-marks c = search needs
@@ -32,23 +29,23 @@ slice-aggregate-fill-marks c = search needs
 fill-marks-requires : tie.Need-fill-marks-requires
 fill-marks-requires c κs = search needs
 
-number-at-requires : tie.Need-number-at-requires
-number-at-requires c κs = search needs
+size-at-requires : tie.Need-size-at-requires
+size-at-requires c κs = search needs
 
-add-number-at : tie.Need-add-number-at
-add-number-at c = search needs
+add-size-at : tie.Need-add-size-at
+add-size-at c = search needs
 
-number-at-requires-2 : tie.Need-number-at-requires-2
-number-at-requires-2 c κs = search needs
+size-at-requires-2 : tie.Need-size-at-requires-2
+size-at-requires-2 c κs = search needs
 
 least-requires-2 : tie.Need-least-requires-2
 least-requires-2 c κs = search needs
 
-add-number-at-2 : tie.Need-add-number-at-2
-add-number-at-2 c = search needs
+add-size-at-2 : tie.Need-add-size-at-2
+add-size-at-2 c = search needs
 
-number-at-requires-3 : tie.Need-number-at-requires-3
-number-at-requires-3 c κs = search needs
+size-at-requires-3 : tie.Need-size-at-requires-3
+size-at-requires-3 c κs = search needs
 
 least-requires-3 : tie.Need-least-requires-3
 least-requires-3 c κs = search needs
@@ -101,16 +98,15 @@ array-written-spec =
     least-requires
     mul-behind
     add-behind
-    slice-aggregate-sizes-from
-    sizes-from-requires
+    sizes-of-requires
     slice-aggregate-fill-marks
     fill-marks-requires
-    number-at-requires
-    add-number-at
-    number-at-requires-2
+    size-at-requires
+    add-size-at
+    size-at-requires-2
     least-requires-2
-    add-number-at-2
-    number-at-requires-3
+    add-size-at-2
+    size-at-requires-3
     least-requires-3
     array-share-prefix-sizes
     slice-aggregate-write
