@@ -18,7 +18,7 @@ use Rattle.frame.specs.declared.Outcome.the-variants.{Ok, Cut, Bad, Open
 use Rattle.frame.specs.declared.Answer.{Answer}
 use Rattle.frame.specs.declared.feed.State.{State}
 use Rattle.frame.specs.Text.{letterOf, wordOf, firstOf, secondOf, decimal, textOf}
-use Rattle.verdict.specs.Writing.{put}
+use Rattle.verdict.specs.Writing.{put, decided}
 use Rattle.frame.specs.Writing.{room, WrittenLine}
 use Rattle.frame.specs.Feeding.{heldAnswer, Closed, Finished}
 use Rattle.verdict.proofs.Putting.{put-none, put-put, length-put}
@@ -69,18 +69,22 @@ complete-one n m e = cc
 
 module _ (number : ℕ) (answer : Answer) (out : List ℕ) (place n : ℕ) (l : n ≡ length (textOf number answer)) (k : n ≤ room) where
   pub written-none : length out < place + n → WrittenLine number answer out place (Refused (record { reason = SmallBuffer; place = 0 })) out
-  written-none h = let t = lt-ltb (length out) (place + length (textOf number answer)) (omega arith) in record { short = omega arith; said = rw t; left = rw t }
+  unfolding decided
+  written-none h = let t = lt-ltb (length out) (place + length (textOf number answer)) (omega arith) in record { short = omega arith; written = record { said = rw t; left = rw t } }
 
   pub written-all : (out′ : List ℕ) → place + n ≤ length out → out′ ≡ put out place (textOf number answer) → WrittenLine number answer out place (Complete n) out′
-  written-all out′ h e = let t = le-ltb (length out) (place + length (textOf number answer)) (omega arith) in record { short = omega arith; said = rw (t, l); left = rw t e }
+  unfolding decided
+  written-all out′ h e = let t = le-ltb (length out) (place + length (textOf number answer)) (omega arith) in record { short = omega arith; written = record { said = rw (t, l); left = rw t e } }
 
 -- where any line has room, this one is written
 module _ (number : ℕ) (answer : Answer) (out : List ℕ) (place : ℕ) (verdict : Verdict) (out′ : List ℕ) (h : place + room ≤ length out) (w : WrittenLine number answer out place verdict out′) where
   pub line-written : verdict ≡ Complete (length (textOf number answer))
-  line-written = w .said ∙ rw (le-ltb (length out) (place + length (textOf number answer)) (omega (arith, w .short)))
+  unfolding decided
+  line-written = w .written .said ∙ rw (le-ltb (length out) (place + length (textOf number answer)) (omega (arith, w .short)))
 
   line-left : out′ ≡ put out place (textOf number answer)
-  line-left = w .left ∙ rw (le-ltb (length out) (place + length (textOf number answer)) (omega (arith, w .short)))
+  unfolding decided
+  line-left = w .written .left ∙ rw (le-ltb (length out) (place + length (textOf number answer)) (omega (arith, w .short)))
 
   pub line-few : (n : ℕ) → verdict ≡ Complete n → n ≤ room
   line-few n e = omega (arith, complete-one n (length (textOf number answer)) (sym e ∙ line-written), w .short)
@@ -103,10 +107,11 @@ module _ (number : ℕ) (answer : Answer) (out : List ℕ) (place : ℕ) (verdic
 -- behind the last chunk: no line is open, or one that is written
 module _ (state : State) (out : List ℕ) where
   pub finished-none : state .held ≡ 0 → Finished state out (Complete 0) out
+  unfolding decided
   finished-none e =
       let t = eq-eqb (state .held) 0 e in
       let z : ltb (length out) (0 + 0) ≡ false = le-ltb (length out) (0 + 0) (omega arith) in
-      record { said = rw (t, z); wrote = rw (t, z) (sym (put-none out 0)) }
+      record { said = rw (t, z); left = rw (t, z) (sym (put-none out 0)) }
 
   pub finished-open : (state .held ≡ 0 → ⊥) → (verdict : Verdict) (out′ : List ℕ) → WrittenLine (state .number) (record { kind = Unknown; outcome = Open }) out 0 verdict out′ → Finished state out verdict out′
-  finished-open n verdict out′ w = let t = ne-eqb (state .held) 0 n in record { said = rw t (w .said); wrote = rw t (w .left) }
+  finished-open n verdict out′ w = let t = ne-eqb (state .held) 0 n in rw t (w .written)

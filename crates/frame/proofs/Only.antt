@@ -21,11 +21,11 @@ pub examine-only : OneAnswer examine.ps examine.r examine-reads.Post
 examine-only κs a x y s t p q = p ∙ sym q
 
 pub write-line-only : OneAnswer write-line.ps write-line.r write-line-reads.Post
-write-line-only κs a x y s t p q = p .said ∙ sym (q .said)
+write-line-only κs a x y s t p q = p .written .said ∙ sym (q .written .said)
 
 pub write-line-leaves : (κs : Lfts 1) (a : Dens κs write-line.ps) (x y : resT write-line.r κs .Denot) (s t : AtExit (endedOf 1 write-line.ps write-line.r) κs)
     → write-line-reads.Post κs a x s → write-line-reads.Post κs a y t → now (s .1 .1 .0) ≡ now (t .1 .1 .0)
-write-line-leaves κs a x y s t p q = p .left ∙ sym (q .left)
+write-line-leaves κs a x y s t p q = p .written .left ∙ sym (q .written .left)
 
 pub start-only : OneAnswer start.ps start.r start-reads.Post
 start-only κs a x y s t p q = p ∙ sym q
@@ -40,4 +40,4 @@ finish-only κs a x y s t p q = p .said ∙ sym (q .said)
 
 pub finish-leaves : (κs : Lfts 1) (a : Dens κs finish.ps) (x y : resT finish.r κs .Denot) (s t : AtExit (endedOf 1 finish.ps finish.r) κs)
     → finish-reads.Post κs a x s → finish-reads.Post κs a y t → now (s .1 .0) ≡ now (t .1 .0)
-finish-leaves κs a x y s t p q = p .wrote ∙ sym (q .wrote)
+finish-leaves κs a x y s t p q = p .left ∙ sym (q .left)

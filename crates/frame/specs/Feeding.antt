@@ -17,7 +17,7 @@ use Rattle.frame.specs.Frame.{refusing}
 use Rattle.frame.specs.Line.{longestLine, lineAnswer}
 use Rattle.frame.specs.Text.{textOf}
 use Rattle.verdict.specs.Writing.{put}
-use Rattle.frame.specs.Writing.{room, countOr13, putOr13}
+use Rattle.frame.specs.Writing.{room, WrittenText}
 use Rattle.frame.specs.Report.{nextNumber}
 
 -- the line buffer with one more character of the open line, and how many are held: past the longest line none is kept, and the count tells that it ran over
@@ -99,9 +99,9 @@ FedBy state chunk buffer out answer buffer′ out′ = cond (tooSmall buffer out
 abbrev pub openHeld : ℕ → ℕ → List ℕ
 openHeld number held = cond (eqb held 0) [] (textOf number (record { kind = Unknown; outcome = Open }))
 
-pub record Finished (state : State) (out : List ℕ) (verdict : Verdict) (out′ : List ℕ) : Type 0 where
-  pub said : verdict ≡ countOr13 out 0 (openHeld (state .number) (state .held))
-  pub wrote : out′ ≡ putOr13 out 0 (openHeld (state .number) (state .held))
+-- behind the last chunk it is written at the front
+abbrev pub Finished : State → List ℕ → Verdict → List ℕ → Type 0
+Finished state out = WrittenText (openHeld (state .number) (state .held)) out 0
 
 -- ---- one call after the other
 

@@ -1,18 +1,15 @@
 -- Words and the bit vector put one after the other. Assumes nothing.
-use Prim.Native.Nat.{ℕ, _+_, _-_, _*_, _^_, _≤_, _<_}
+use Prim.Native.Nat.{ℕ, _+_, _-_, _*_, _≤_, _<_}
 use mathlib.Core.Path.{_≡_, sym, ap, _∙_, subst}
 use mathlib.Core.List.{List, [], _∷_, _++_}
 use native.Mathlib.Nat.{one-mul, zero-mul, mul-le-mul-right}
 use native.Mathlib.Numerals.{add-one}
 use native.Mathlib.Omega.{arith}
-use borrow.Author.Tests.{le-ltb, lt-leb}
 use lib.ListN.{length, take, getD, set, replicate}
 use lib.Seq.{take-take}
-use Rattle.verdict.specs.declared.Verdict.{Verdict}
 use Rattle.verdict.specs.Writing.{put}
 use Rattle.verdict.proofs.Putting.{put-none, put-put, put-more, put-three, length-put}
 use Rattle.word.specs.Digits.{digits, valueOf}
-use Rattle.word.specs.Bytes.{Written}
 use Rattle.matrix.specs.declared.Fields.{Fields}
 use Rattle.matrix.specs.Meaning.{sum}
 use Rattle.matrix.specs.Spelling.{control1, control2, packed, spelled}
@@ -20,10 +17,6 @@ use Rattle.matrix.proofs.BitVector.{length-packed}
 use Rattle.matrix.proofs.Decoding.{length-spelled, length-ones}
 use Rattle.unpack.proofs.Sums.{sum-more, sum-first-most}
 use Rattle.matrixwriter.proofs.Spelled.{spelled-more, all-spelled-more, packed-more, bitsFrom}
-
--- a word that fits, where there is room
-pub word-put : (out : List ℕ) (place n word : ℕ) (answer : Verdict) (out′ : List ℕ) → n ≤ 8 → word < 256 ^ n → place + n ≤ length out → Written out place n word answer out′ → out′ ≡ put out place (digits 256 n word)
-word-put out place n word answer out′ h k l w = w .left ∙ rw (le-ltb 8 n h, lt-leb (256 ^ n) word k, le-ltb (length out - place) n (omega arith))
 
 -- a word whose mark is 0 has no bytes
 pub unsent-put : (out : List ℕ) (place size mark word : ℕ) → mark ≡ 0 → out ≡ put out place (digits 256 (mark * size) word)

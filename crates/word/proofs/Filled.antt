@@ -1,16 +1,21 @@
 -- Laws of the loops that fill bytes: eight from the front with zeros behind, and a word's from its last byte on. Assumes nothing.
-use Prim.Native.Nat.{ℕ, suc, _+_, _-_, _/_, _%_, _≤_, _<_}
+use Prim.Native.Nat.{ℕ, suc, _+_, _-_, _/_, _%_, _^_, _≤_, _<_}
 use mathlib.Core.Path.{_≡_, _∙_, sym, ap}
 use mathlib.Core.List.{List, [], _∷_, _++_}
 use native.Mathlib.Omega.{arith}
+use borrow.Author.Tests.{lt-ltb, le-ltb, lt-leb, le-leb}
 use native.Mathlib.Nat.{le-of-eq, add-suc, add-zero}
-use lib.ListN.{length, take, drop, getD, set, replicate, length-append, length-take, length-drop, take-append-drop, drop-of-length-le}
+use lib.ListN.{length, take, drop, getD, set, replicate, length-append, length-take, length-drop, drop-of-length-le}
 use lib.Seq.{take-all, take-suc, take-take, take-at, drop-cons, getD-drop, getD-take, getD-at, set-at, append-snoc, length-take-le}
-use Rattle.verdict.specs.declared.Reason.{Reason}
+use Rattle.verdict.specs.declared.Reason.the-variants.{ValueLength, ValueRange, SmallBuffer}
+use Rattle.verdict.specs.declared.Verdict.{Verdict}
 use Rattle.verdict.specs.declared.Verdict.the-variants.{Complete}
-use Rattle.verdict.specs.Writing.{put, refusing}
+use Rattle.verdict.specs.Writing.{put, refusing, decided}
+use Rattle.verdict.proofs.Deciding.{decided-kept}
+use Rattle.verdict.proofs.Judging.{Kept}
+use Rattle.verdict.proofs.Putting.{put-none, put-before}
 use Rattle.word.specs.Digits.{digits}
-use Rattle.word.specs.Bytes.{writtenOf, Written}
+use Rattle.word.specs.Bytes.{writerRows, Written}
 use Rattle.word.proofs.Digits.{length-digits}
 
 -- one byte more in the first of eight
@@ -23,26 +28,17 @@ eight-more s place i h k =
     (set-at (take i (drop place s)) 0 (replicate (8 - suc i) 0) (getD s (place + i) 0) i (length-take-le i (drop place s) (omega arith))
     ∙ sym (rw (take-suc (drop place s) i 0 inside, getD-drop) (append-snoc (take i (drop place s)) (getD s (place + i) 0) (replicate (8 - suc i) 0))))
 
--- bytes put over as many keep the length
-pub length-put : (out ds : List ℕ) (place end : ℕ) → place + length ds ≡ end → length ds ≤ length out - place → length (take place out ++ (ds ++ drop end out)) ≡ length out
-length-put out ds place end e h = simp (length-append, length-take, length-drop) (omega arith)
-
--- a word's bytes put at a place
-pub digits-put : (out : List ℕ) (place n word : ℕ) → put out place (digits 256 n word) ≡ take place out ++ (digits 256 n word ++ drop (place + n) out)
-unfolding put
-digits-put out place n word = rw length-digits
-
 -- a word of n bytes is stored but for its first `left`, which are those of `rest`
 pub record Stored (out₀ : List ℕ) (place n word left rest : ℕ) (out : List ℕ) : Type 0 where
   pub within : left ≤ n
   pub still : take left (digits 256 n word) ≡ digits 256 left rest
-  pub is : out ≡ take (place + left) out₀ ++ (drop left (digits 256 n word) ++ drop (place + n) out₀)
+  pub is : out ≡ put out₀ (place + left) (drop left (digits 256 n word))
 
 module _ (out₀ : List ℕ) (place n word : ℕ) where
   pub stored-none : Stored out₀ place n word n word out₀
   stored-none =
       let l : length (digits 256 n word) ≤ n = le-of-eq (length-digits 256 n word) in
-      record { within = omega arith; still = take-all n (digits 256 n word) l; is = rw (drop-of-length-le (digits 256 n word) l) (sym (take-append-drop (place + n) out₀)) }
+      record { within = omega arith; still = take-all n (digits 256 n word) l; is = rw (drop-of-length-le (digits 256 n word) l) (sym (put-none out₀ (place + n))) }
 
   pub stored-more : (left rest : ℕ) (out : List ℕ) → n ≤ length out₀ - place → Stored out₀ place n word (suc left) rest out
       → Stored out₀ place n word left (rest / 256) (set out (place + left) (rest % 256))
@@ -59,28 +55,44 @@ module _ (out₀ : List ℕ) (place n word : ℕ) where
         still = sym (take-take left (suc left) (digits 256 n word) (omega arith)) ∙ ap (take left) (s .still) ∙ take-at (digits 256 left (rest / 256)) (rest % 256 ∷ []) left l;
         is =
             ap (λ (bs : List ℕ). set bs (place + left) (rest % 256)) (s .is)
-            ∙ rw (add-suc, take-suc out₀ (place + left) 0 (omega arith), append-snoc)
-            (set-at (take (place + left) out₀) (getD out₀ (place + left) 0) (drop (suc left) (digits 256 n word) ++ drop (place + n) out₀) (rest % 256) (place + left)
-            (length-take-le (place + left) out₀ (omega arith))
-            ∙ rw (drop-cons (digits 256 n word) left 0 inside, byte));
+            ∙ rw (add-suc, drop-cons (digits 256 n word) left 0 inside, byte) (put-before out₀ (place + left) (drop (suc left) (digits 256 n word)) (rest % 256) (omega arith));
       }
 
-  pub stored-all : (left rest : ℕ) (out : List ℕ) → left ≤ 0 → Stored out₀ place n word left rest out
-      → out ≡ take place out₀ ++ (digits 256 n word ++ drop (place + n) out₀)
+  pub stored-all : (left rest : ℕ) (out : List ℕ) → left ≤ 0 → Stored out₀ place n word left rest out → out ≡ put out₀ place (digits 256 n word)
   stored-all left rest out h s =
       let e : left ≡ 0 = omega arith in
       s .is ∙ rw (e, add-zero)
 
   pub stored-length : (left rest : ℕ) (out : List ℕ) → n ≤ length out₀ - place → Stored out₀ place n word left rest out → length out ≡ length out₀
-  stored-length left rest out h s =
-      let l : length (drop left (digits 256 n word)) ≡ n - left = simp (length-drop, length-digits) in
-      ap length (s .is) ∙ length-put out₀ (drop left (digits 256 n word)) (place + left) (place + n) (omega (arith, s .within)) (omega arith)
+  unfolding put
+  stored-length left rest out h s = ap length (s .is) ∙ simp (length-append, length-take, length-drop, length-digits) (omega (arith, s .within))
 
-  -- a refusal leaves the bytes
-  pub refused-left : (reason : Reason) → writtenOf out₀ place n word ≡ refusing reason → Written out₀ place n word (refusing reason) out₀
-  refused-left reason e = record { said = sym e; left = rw e }
+  -- ---- what the writer answers: a refusal leaves the bytes, and the count of bytes comes with the word's
 
-  -- the count of bytes comes with the word's bytes
-  pub stored-left : (out : List ℕ) → writtenOf out₀ place n word ≡ Complete n → out ≡ take place out₀ ++ (digits 256 n word ++ drop (place + n) out₀)
-      → Written out₀ place n word (Complete n) out
-  stored-left out e l = record { said = sym e; left = rw e (l ∙ sym (digits-put out₀ place n word)) }
+  pub length-refused : 8 < n → Written out₀ place n word (refusing ValueLength) out₀
+  unfolding decided
+  length-refused h = let e = lt-ltb 8 n h in record { said = rw e; left = rw e }
+
+  pub range-refused : n ≤ 8 → 256 ^ n ≤ word → Written out₀ place n word (refusing ValueRange) out₀
+  unfolding decided
+  range-refused h k = let e = le-ltb 8 n h in let f = le-leb (256 ^ n) word k in record { said = rw (e, f); left = rw (e, f) }
+
+  pub room-refused : n ≤ 8 → word < 256 ^ n → length out₀ - place < n → Written out₀ place n word (refusing SmallBuffer) out₀
+  unfolding decided
+  room-refused h k l =
+      let e = le-ltb 8 n h in
+      let f = lt-leb (256 ^ n) word k in
+      let g = lt-ltb (length out₀ - place) n l in
+      record { said = rw (e, f, g); left = rw (e, f, g) }
+
+  kept-rules : n ≤ 8 → word < 256 ^ n → n ≤ length out₀ - place → Kept (writerRows out₀ place n word)
+  kept-rules h k l = (le-ltb 8 n h, (lt-leb (256 ^ n) word k, (le-ltb (length out₀ - place) n l, tt)))
+
+  pub stored-left : (out : List ℕ) → n ≤ 8 → word < 256 ^ n → n ≤ length out₀ - place → out ≡ put out₀ place (digits 256 n word) → Written out₀ place n word (Complete n) out
+  stored-left out h k l p =
+      let e = decided-kept (writerRows out₀ place n word) (Complete (length (digits 256 n word))) (kept-rules h k l) in
+      record { said = rw e (ap Complete (sym (length-digits 256 n word))); left = rw e p }
+
+  -- a word that fits is written where there is room
+  pub fitting-written : (answer : Verdict) (out : List ℕ) → n ≤ 8 → word < 256 ^ n → n ≤ length out₀ - place → Written out₀ place n word answer out → out ≡ put out₀ place (digits 256 n word)
+  fitting-written answer out h k l w = w .left ∙ rw (decided-kept (writerRows out₀ place n word) (Complete (length (digits 256 n word))) (kept-rules h k l))

@@ -1,14 +1,13 @@
 -- What reading a word of so many bytes at a place finds, and what writing one there leaves.
 use Prim.Native.Nat.{ℕ, _-_, _^_}
-use mathlib.Core.Path.{_≡_}
 use mathlib.Core.Bool.{cond}
-use mathlib.Core.List.{List}
+use mathlib.Core.List.{List, [], _∷_}
 use lib.ListN.{length, take, drop}
 use lib.Dec.{leb, ltb}
 use Rattle.verdict.specs.declared.Reason.the-variants.{ValueLength, ValueRange, SmallBuffer}
 use Rattle.verdict.specs.declared.Verdict.{Verdict}
-use Rattle.verdict.specs.declared.Verdict.the-variants.{Complete}
-use Rattle.verdict.specs.Writing.{refusing, leftBy}
+use Rattle.verdict.specs.Rows.{Row}
+use Rattle.verdict.specs.Writing.{WrittenBy}
 use Rattle.word.specs.declared.bytes.Read.{Read}
 use Rattle.word.specs.declared.bytes.Read.the-variants.{Word, Unfinished as ReadUnfinished, Refused as ReadRefused}
 use Rattle.word.specs.Digits.{digits, valueOf}
@@ -23,12 +22,14 @@ readOf bytes place n =
     cond (ltb 8 n) (ReadRefused (record { reason = ValueLength; place = 0 }))
     (cond (ltb (length bytes - place) n) (ReadUnfinished (n - (length bytes - place))) (Word (wordAt bytes place n)))
 
--- refused 6 above eight bytes, 11 for a word too long for its length, 13 without room; else the count of bytes
-abbrev pub writtenOf : List ℕ → ℕ → ℕ → ℕ → Verdict
-writtenOf out place n word =
-    cond (ltb 8 n) (refusing ValueLength)
-    (cond (leb (256 ^ n) word) (refusing ValueRange) (cond (ltb (length out - place) n) (refusing SmallBuffer) (Complete n)))
+-- 6 above eight bytes; 11 for a word too long for its length; 13
+abbrev pub writerRows : List ℕ → ℕ → ℕ → ℕ → List Row
+writerRows out place n word =
+    record { broken = ltb 8 n; reason = ValueLength }
+    ∷ record { broken = leb (256 ^ n) word; reason = ValueRange }
+    ∷ record { broken = ltb (length out - place) n; reason = SmallBuffer }
+    ∷ []
 
-pub record Written (out : List ℕ) (place n word : ℕ) (answer : Verdict) (out′ : List ℕ) : Type 0 where
-  pub said : answer ≡ writtenOf out place n word
-  pub left : out′ ≡ leftBy (writtenOf out place n word) out place (digits 256 n word)
+-- what writing a word of n bytes at a place answers and leaves
+abbrev pub Written : List ℕ → ℕ → ℕ → ℕ → Verdict → List ℕ → Type 0
+Written out place n word = WrittenBy (writerRows out place n word) (digits 256 n word) out place

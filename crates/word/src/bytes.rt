@@ -1,9 +1,10 @@
 // Words in bytes, first byte first: read at a place of the bytes, and written at one.
 ghost use mathlib.Core.Path.{_≡_};
 ghost use mathlib.Core.List.{_++_};
-ghost use Prim.Native.Nat.{_+_, _-_, _≤_, _^_};
+ghost use Prim.Native.Nat.{_-_, _≤_, _^_};
 ghost use lib.ListN.{length as count, take, drop, replicate};
 ghost use lib.Dec.{ltb};
+ghost use Rattle.verdict.specs.Writing.{put};
 ghost use Rattle.word.specs.Digits.{digits, valueOf};
 ghost use Rattle.word.specs.Bytes.{readOf, Written};
 use verdict::Reason;
@@ -83,7 +84,7 @@ fn fits(word: u64, length: usize) -> bool
 // The word's bytes, the last one first, at a place with room for them.
 fn put_at(out: &mut [u8], place: usize, length: usize, word: u64)
     requires { ⌜ length ≤ count (now out) - place ⌝ }
-    ensures { λ _. ⌜ now (out .exit) ≡ take place (now (out .entry)) ++ (digits 256 length word ++ drop (place + length) (now (out .entry))) ⌝ }
+    ensures { λ _. ⌜ now (out .exit) ≡ put (now (out .entry)) place (digits 256 length word) ⌝ }
 {
     let mut left = length;
     let mut rest = word;

@@ -3,17 +3,16 @@ use Prim.Native.Nat.{_-_, _^_, _<_, _≤_}
 use mathlib.Core.Path.{_∙_, sym}
 use native.Mathlib.Omega.{arith}
 use borrow.Author.Needs.{needs}
-use borrow.Author.Tests.{lt-ltb, le-ltb, le-leb, lt-leb, ltb-true, ltb-false, not-true, not-false}
+use borrow.Author.Tests.{ltb-true, ltb-false, not-true, not-false}
 use lib.ListN.{length as count}
-use Rattle.verdict.specs.declared.Reason.the-variants.{ValueLength, ValueRange, SmallBuffer}
-use Rattle.word.proofs.Filled.{refused-left, stored-left}
+use Rattle.word.proofs.Filled.{length-refused, range-refused, room-refused, stored-left}
 use Rattle.word.proofs.bytes.write_at.Statement.{statement}
 use Rattle.word.proofs.bytes.write_at.Tie as tie
 
 returns : tie.Need-returns
 returns c =
     let a = c .before .before .args in
-    refused-left (a .out .now) (a .place) (a .length) (a .word) ValueLength (simp (lt-ltb _ _ (c .if1 .taken)))
+    length-refused (a .out .now) (a .place) (a .length) (a .word) (omega arith)
 
 fits-requires : tie.Need-fits-requires
 fits-requires c κs = search needs
@@ -22,7 +21,7 @@ returns-2 : tie.Need-returns-2
 returns-2 c =
     let a = c .before .before .before .before .args in
     let long : 256 ^ a .length ≤ a .word = ltb-false (a .word) (256 ^ a .length) (sym (c .before .fits2 .ensures) ∙ not-true _ (c .if2 .taken)) in
-    refused-left (a .out .now) (a .place) (a .length) (a .word) ValueRange (simp (le-ltb _ _ (c .before .before .if1 .left), le-leb _ _ long))
+    range-refused (a .out .now) (a .place) (a .length) (a .word) (omega arith) long
 
 from-place-requires : tie.Need-from-place-requires
 from-place-requires c κs = search needs
@@ -32,8 +31,7 @@ returns-3 c =
     let a = c .before .before .before .before .before .before .args in
     let fit : a .word < 256 ^ a .length = ltb-true (a .word) (256 ^ a .length) (sym (c .before .before .before .fits2 .ensures) ∙ not-false _ (c .before .before .if2 .left)) in
     let missing : count (a .out .now) - a .place < a .length = omega arith in
-    refused-left (a .out .now) (a .place) (a .length) (a .word) SmallBuffer
-    (simp (le-ltb _ _ (c .before .before .before .before .if1 .left), lt-leb _ _ fit, lt-ltb _ _ missing))
+    room-refused (a .out .now) (a .place) (a .length) (a .word) (omega arith) fit missing
 
 put-at-requires : tie.Need-put-at-requires
 put-at-requires c κs = search needs
@@ -46,9 +44,7 @@ returns-4 c =
     let a = c .before .before .before .before .before .before .before .before .before .before .args in
     let fit : a .word < 256 ^ a .length = ltb-true (a .word) (256 ^ a .length) (sym (c .before .before .before .before .before .before .before .fits2 .ensures) ∙ not-false _ (c .before .before .before .before .before .before .if2 .left)) in
     let room : a .length ≤ count (a .out .now) - a .place = omega arith in
-    stored-left (a .out .now) (a .place) (a .length) (a .word) (c .before .before .put-at .last .0)
-    (simp (le-ltb _ _ (c .before .before .before .before .before .before .before .before .if1 .left), lt-leb _ _ fit, le-ltb _ _ room))
-    (c .before .before .put-at .ensures)
+    stored-left (a .out .now) (a .place) (a .length) (a .word) (c .before .before .put-at .last .0) (omega arith) fit room (c .before .before .put-at .ensures)
 
 pub write-at-spec : {M : Type 1} → statement M
 write-at-spec =
