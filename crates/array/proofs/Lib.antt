@@ -5,8 +5,4 @@ pub mod Verdicts
 pub mod Decoding
 pub mod Complete
 pub mod Drawing
-pub mod Walking
-pub mod EightSizes
 pub mod Offsets
-pub mod Answers
-pub mod Only

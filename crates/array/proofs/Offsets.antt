@@ -10,10 +10,8 @@ use borrow.Author.Tests.{ltb-true, lt-ltb, le-ltb}
 use lib.ListN.{length, drop, getD, drop-of-length-le}
 use lib.Seq.{drop-cons}
 use lib.Dec.{ltb}
-use Rattle.verdict.specs.declared.Reason.the-variants.{Index}
-use Rattle.array.specs.declared.Addressed.the-variants.{Offset, Refused}
-use Rattle.array.specs.Meaning.{Array, product}
-use Rattle.array.specs.Reading.{inside, offset, addressIn}
+use Rattle.array.specs.Meaning.{product}
+use Rattle.array.specs.Offsets.{inside, offset}
 
 -- the offset of an element inside is below the count of elements
 pub offset-below : (sizes indices : List ℕ) → inside sizes indices ≡ true → offset sizes indices < product sizes
@@ -91,11 +89,3 @@ module _ (sizes indices : List ℕ) where
           summed = b .summed ∙ rw (e, f) (omega (arith, mul-assoc sum size p));
           left = b .left ∙ rw (drop-cons sizes count 0 h, drop-cons indices count 0 k, ← d, lt-ltb x size l);
         })
-
--- the answer outside, and inside
-module _ (a : Array) (indices : List ℕ) where
-  pub refused-outside : inside (a .sizes) indices ≡ false → Refused (record { reason = Index; place = 0 }) ≡ addressIn a indices
-  refused-outside h = rw h
-
-  pub offset-inside : (count sum element : ℕ) → Begun (a .sizes) indices count sum → length (a .sizes) ≤ count → length indices ≤ count → element ≡ a .element → Offset (sum * element) ≡ addressIn a indices
-  offset-inside count sum element b h k e = rw (begun-inside (a .sizes) indices count sum b h k, begun-offset (a .sizes) indices count sum b h, e)

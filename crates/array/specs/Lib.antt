@@ -3,5 +3,4 @@ pub mod Spelling
 pub mod Table
 pub mod Machine
 pub mod Decoded
-pub mod Reading
-pub mod Walk
+pub mod Offsets

@@ -11,7 +11,7 @@ use Rattle.verdict.specs.declared.Verdict.the-variants.{Complete, Unfinished, R
 use Rattle.verdict.specs.Writing.{put}
 use Rattle.verdict.proofs.Putting.{put-none, put-one, put-put, length-put}
 use Rattle.number.specs.Octets.{octets, numbers}
-use Rattle.number.proofs.Written.{octets-short}
+use Rattle.number.proofs.Counts.{octets-short}
 
 -- of these bytes, put at a place, so many are left from `at` on
 pub record PutTo (out₀ : List ℕ) (place : ℕ) (whole : List ℕ) (at : ℕ) (left out : List ℕ) : Type 0 where

@@ -1,6 +1,5 @@
 // Whether what the writer is given keeps the rules, in document 01's order.
 ghost use mathlib.Core.Path.{_≡_};
-ghost use mathlib.Core.List.{_++_};
 ghost use Prim.Native.Nat.{_≤_};
 ghost use Rattle.array.specs.Meaning.{product, most};
 ghost use Rattle.arraywriter.specs.Given.{sizeRows, bodyRows, givenRows};

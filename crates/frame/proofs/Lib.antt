@@ -1,11 +1,3 @@
-pub mod Decimals
-pub mod Spelling
-pub mod Lines
-pub mod Keeping
 pub mod Keys
 pub mod Lengths
-pub mod DigitPairs
-pub mod Reporting
-pub mod Chunks
-pub mod Progress
 pub mod Only

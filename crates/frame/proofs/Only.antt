@@ -1,43 +1,8 @@
--- The contract of each public function, as the source states it, admits one answer and one state of the lent memory. Assumes nothing.
-use mathlib.Core.Path.{_≡_, _∙_, sym}
-use contract.Lifetimes.{Lfts}
-use borrow.Fn.Kinds.{Dens, resT, endedOf}
-use denote.Triple.Clauses.{AtExit}
-use denote.Ref.{now}
+-- The contract of the public function, as the source states it, admits one answer. Assumes nothing.
+use mathlib.Core.Path.{_∙_, sym}
 use Rattle.verdict.proofs.OneAnswer.{OneAnswer}
-use Rattle.frame.proofs.Chunks.{Same, fed-one}
 use Rattle.frame.proofs.examine.examine.Kinds as examine
 use Rattle.frame.proofs.examine.examine.Reads as examine-reads
-use Rattle.frame.proofs.text.write_line.Kinds as write-line
-use Rattle.frame.proofs.text.write_line.Reads as write-line-reads
-use Rattle.frame.proofs.feed.start.Kinds as start
-use Rattle.frame.proofs.feed.start.Reads as start-reads
-use Rattle.frame.proofs.feed.feed.Kinds as feed
-use Rattle.frame.proofs.feed.feed.Reads as feed-reads
-use Rattle.frame.proofs.feed.finish.Kinds as finish
-use Rattle.frame.proofs.feed.finish.Reads as finish-reads
 
 pub examine-only : OneAnswer examine.ps examine.r examine-reads.Post
 examine-only κs a x y s t p q = p ∙ sym q
-
-pub write-line-only : OneAnswer write-line.ps write-line.r write-line-reads.Post
-write-line-only κs a x y s t p q = p .written .said ∙ sym (q .written .said)
-
-pub write-line-leaves : (κs : Lfts 1) (a : Dens κs write-line.ps) (x y : resT write-line.r κs .Denot) (s t : AtExit (endedOf 1 write-line.ps write-line.r) κs)
-    → write-line-reads.Post κs a x s → write-line-reads.Post κs a y t → now (s .1 .1 .0) ≡ now (t .1 .1 .0)
-write-line-leaves κs a x y s t p q = p .written .left ∙ sym (q .written .left)
-
-pub start-only : OneAnswer start.ps start.r start-reads.Post
-start-only κs a x y s t p q = p ∙ sym q
-
--- the answer, the line buffer and the output
-pub feed-only : (κs : Lfts 3) (a : Dens κs feed.ps) (x y : resT feed.r κs .Denot) (s t : AtExit (endedOf 3 feed.ps feed.r) κs) → feed-reads.Post κs a x s → feed-reads.Post κs a y t
-    → Same x y (now (s .1 .1 .0)) (now (t .1 .1 .0)) (now (s .1 .1 .1 .0)) (now (t .1 .1 .1 .0))
-feed-only κs a x y s t p q = fed-one (a .0) (now (a .1 .0)) (now (a .1 .1 .0)) (now (a .1 .1 .1 .0)) x y _ _ _ _ p q
-
-pub finish-only : OneAnswer finish.ps finish.r finish-reads.Post
-finish-only κs a x y s t p q = p .said ∙ sym (q .said)
-
-pub finish-leaves : (κs : Lfts 1) (a : Dens κs finish.ps) (x y : resT finish.r κs .Denot) (s t : AtExit (endedOf 1 finish.ps finish.r) κs)
-    → finish-reads.Post κs a x s → finish-reads.Post κs a y t → now (s .1 .0) ≡ now (t .1 .0)
-finish-leaves κs a x y s t p q = p .left ∙ sym (q .left)

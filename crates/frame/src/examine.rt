@@ -1,7 +1,7 @@
 // A frame from bytes: the checks in their order, then the pack's own verdict.
 ghost use mathlib.Core.Path.{_≡_};
 ghost use Prim.Native.Nat.{_≤_, _+_};
-ghost use lib.ListN.{length, take, drop};
+ghost use lib.ListN.{length, take};
 ghost use Rattle.frame.specs.Frame.{kindOf, outcomeOf, refusing, valueAnswer, lengthOf, lengthAnswer, answerOf};
 ghost use Rattle.word.specs.Bytes.{wordAt};
 use crate::Answer;
@@ -19,7 +19,7 @@ use word::bytes::read_at;
 pub const LONGEST: usize = 32832;
 
 // A frame's own refusal.
-pub(crate) fn refuse(kind: Kind, reason: Reason) -> Answer
+fn refuse(kind: Kind, reason: Reason) -> Answer
     ensures { λ r. ⌜ r ≡ refusing kind reason ⌝ }
 {
     let refusal = Refusal { reason, place: 0 };
@@ -55,11 +55,11 @@ fn from_value(kind: Kind, value: &[u8]) -> Answer
     match kind {
         Kind::Matrix => Answer {
             kind: Kind::Matrix,
-            outcome: outcome_of(matrix::verdict(value), value.len()),
+            outcome: outcome_of(matrixreader::verdict(value), value.len()),
         },
         Kind::Array => Answer {
             kind: Kind::Array,
-            outcome: outcome_of(array::verdict(value), value.len()),
+            outcome: outcome_of(arrayreader::verdict(value), value.len()),
         },
         Kind::Unknown => refuse(Kind::Unknown, Reason::UnknownKey),
     }

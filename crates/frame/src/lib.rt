@@ -1,11 +1,8 @@
-// Frames: a key, a BER length and a value, as bytes or as a line of hexadecimal; the text of a report line, and the report on an input fed in chunks.
+// Frames: a key, a BER length and a value; the answer to a frame's bytes.
 use verdict::Refusal;
 
 pub mod examine;
-pub mod feed;
-mod hex;
 mod length;
-pub mod text;
 
 // The kind of pack that a frame's key names.
 pub enum Kind {

@@ -12,11 +12,11 @@ use lib.ListN.{length, length-append}
 use Rattle.verdict.specs.Rows.{judged}
 use Rattle.verdict.proofs.Judging.{Reaches, kept-reaches, reaches-kept}
 use Rattle.verdict.specs.Machine.{Move, Accepts}
-use Rattle.word.specs.declared.rules.Rule.{Rule}
-use Rattle.word.specs.Rules.{cleared, Keeps, Sound}
+use Rattle.rule.specs.declared.rules.Rule.{Rule}
+use Rattle.rule.specs.Rules.{cleared, Keeps, Sound}
 use Rattle.word.specs.Digits.{digits}
 use Rattle.word.proofs.Digits.{digits-front, length-digits}
-use Rattle.word.proofs.Certain.{cleared-le, cleared-back, cleared-scaled, sign-whole}
+use Rattle.rule.proofs.Certain.{cleared-le, cleared-back, cleared-scaled, sign-whole}
 use Rattle.matrix.specs.Table.{wordRows}
 use Rattle.matrix.specs.Machine.{State, word, Run, enter, enterWord, enterRun, inWord, restOf, step}
 

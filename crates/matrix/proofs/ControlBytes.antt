@@ -7,7 +7,7 @@ use native.Mathlib.Omega.{arith}
 use borrow.Author.Tests.{eqb-true, eqb-false, eq-eqb, ne-eqb, le-ltb, ltb-false, not-false}
 use lib.Dec.{eqb}
 use Rattle.verdict.proofs.Judging.{Kept}
-use Rattle.word.proofs.Certain.{deviation-sound, coefficient-sound, deviation-length, coefficient-length}
+use Rattle.rule.proofs.Certain.{deviation-sound, coefficient-sound, deviation-length, coefficient-length}
 use Rattle.matrix.specs.declared.Fields.{Fields}
 use Rattle.matrix.specs.Meaning.{LawfulFirst, LawfulFields}
 use Rattle.matrix.specs.Spelling.{bit, first, second, control1, control2}

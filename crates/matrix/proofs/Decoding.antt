@@ -10,9 +10,9 @@ use lib.Seq.{take-at, drop-at}
 use lib.Dec.{eqb}
 use Rattle.verdict.proofs.Cases.{by-test}
 use Rattle.word.specs.Digits.{digits, valueOf}
-use Rattle.word.specs.Rules.{deviationRule, coefficientRule}
+use Rattle.rule.specs.Rules.{deviationRule, coefficientRule}
 use Rattle.word.proofs.Digits.{length-digits, value-digits}
-use Rattle.word.proofs.Certain.{keeps-fits, deviation-sound, coefficient-sound, deviation-length, coefficient-length}
+use Rattle.rule.proofs.Certain.{keeps-fits, deviation-sound, coefficient-sound, deviation-length, coefficient-length}
 use Rattle.matrix.specs.declared.Fields.{Fields}
 use Rattle.matrix.specs.Meaning.{sum, nought, Matrix, Lawful}
 use Rattle.matrix.specs.Spelling.{meaningBehind, bits, packed, spelled, bytesOf, vectorBytes, marksOf, read, meaningOf}

@@ -8,7 +8,7 @@ use lib.Dec.{eqb, ltb}
 use Rattle.verdict.proofs.Cases.{either, and-right}
 use Rattle.verdict.proofs.Deciding.{kept-both, both-kept}
 use Rattle.verdict.proofs.Judging.{Kept}
-use Rattle.word.specs.Rules.{allowed}
+use Rattle.rule.specs.Rules.{allowed}
 use Rattle.matrix.specs.declared.Fields.{Fields}
 use Rattle.matrix.specs.Meaning.{LawfulFirst, LawfulFields}
 use Rattle.matrix.specs.Table.{coefficientRows, deviationRows, fieldRows}

@@ -12,12 +12,12 @@ use lib.Pow.{pow-add}
 use Rattle.verdict.specs.Rows.{Row, judged}
 use Rattle.verdict.proofs.Judging.{Kept, judged-kept, judged-by}
 use Rattle.verdict.specs.Machine.{Move, on, done, Falls, Nears, Laws}
-use Rattle.word.proofs.Certain.{deviation-sound, coefficient-sound, deviation-length, coefficient-length}
+use Rattle.rule.proofs.Certain.{deviation-sound, coefficient-sound, deviation-length, coefficient-length}
 use Rattle.matrix.specs.declared.Fields.{Fields}
 use Rattle.verdict.proofs.Cases.{by-test, either, and-right}
 use Rattle.word.specs.Digits.{digits}
-use Rattle.word.specs.declared.rules.Rule.{Rule}
-use Rattle.word.specs.Rules.{cleared, Sound}
+use Rattle.rule.specs.declared.rules.Rule.{Rule}
+use Rattle.rule.specs.Rules.{cleared, Sound}
 use Rattle.matrix.specs.Meaning.{pairs, sum, LawfulFirst, LawfulFields}
 use Rattle.matrix.specs.Spelling.{bit, vectorBytes, first, second}
 use Rattle.matrix.specs.Table.{sizeRows, control1Rows, control2Rows, vectorRows, wordRows}

@@ -13,10 +13,5 @@ pub mod Decoding
 pub mod Complete
 pub mod Counts
 pub mod Judgements
-pub mod Heading
 pub mod Ones
 pub mod VectorRuns
-pub mod Sending
-pub mod Passing
-pub mod Walking
-pub mod Only

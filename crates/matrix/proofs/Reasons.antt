@@ -15,7 +15,7 @@ use Rattle.verdict.specs.declared.Reason.{Reason}
 use Rattle.verdict.specs.declared.Reason.the-variants.{Empty, ValueRange}
 use Rattle.verdict.specs.Says.{OneReason}
 use Rattle.verdict.specs.Machine.{Move, on, done, Blames}
-use Rattle.word.specs.Rules.{cleared}
+use Rattle.rule.specs.Rules.{cleared}
 use Rattle.word.specs.Digits.{digits}
 use Rattle.matrix.specs.declared.Fields.{Fields}
 use Rattle.matrix.specs.Meaning.{pairs, sum, LawfulFirst, LawfulFields}

@@ -9,10 +9,10 @@ use native.Mathlib.Omega.{arith}
 use lib.ListN.{length, getD, drop, replicate, length-drop, length-replicate}
 use lib.Seq.{getD-drop}
 use Rattle.verdict.proofs.Judging.{Reaches}
-use Rattle.word.specs.declared.rules.Rule.{Rule}
-use Rattle.word.specs.Rules.{Keeps, Sound, deviationRule, coefficientRule}
+use Rattle.rule.specs.declared.rules.Rule.{Rule}
+use Rattle.rule.specs.Rules.{Keeps, Sound, deviationRule, coefficientRule}
 use Rattle.word.specs.Digits.{digits}
-use Rattle.word.proofs.Certain.{keeps-fits, deviation-sound, coefficient-sound, deviation-length, coefficient-length}
+use Rattle.rule.proofs.Certain.{keeps-fits, deviation-sound, coefficient-sound, deviation-length, coefficient-length}
 use Rattle.matrix.specs.declared.Fields.{Fields}
 use Rattle.matrix.specs.Meaning.{sum, nought, LawfulFields}
 use Rattle.matrix.specs.Spelling.{spelled}

@@ -4,5 +4,3 @@ pub mod Spelling
 pub mod Pack
 pub mod Table
 pub mod Machine
-pub mod Reading
-pub mod Walk

@@ -9,8 +9,8 @@ use Rattle.verdict.specs.Rows.{judged}
 use Rattle.verdict.specs.declared.Verdict.{Verdict}
 use Rattle.verdict.specs.Machine.{Move, on, done, run, reach, led}
 use Rattle.word.specs.Digits.{digits}
-use Rattle.word.specs.declared.rules.Rule.{Rule}
-use Rattle.word.specs.Rules.{cleared, deviationRule, coefficientRule, Sound}
+use Rattle.rule.specs.declared.rules.Rule.{Rule}
+use Rattle.rule.specs.Rules.{cleared, deviationRule, coefficientRule, Sound}
 use Rattle.matrix.specs.declared.Fields.{Fields}
 use Rattle.matrix.specs.Meaning.{pairs, sum, LawfulFirst, LawfulFields}
 use Rattle.matrix.specs.Spelling.{vectorBytes, first, second}

@@ -4,8 +4,8 @@ use mathlib.Core.Path.{_≡_}
 use mathlib.Core.Bool.{true, false, cond}
 use mathlib.Core.List.{List, [], _∷_}
 use lib.ListN.{length, getD}
-use Rattle.word.specs.Rules.{Keeps, allowed, deviationRule, coefficientRule}
-use Rattle.word.specs.Scaled.{noughtOf}
+use Rattle.rule.specs.Rules.{Keeps, allowed, deviationRule, coefficientRule}
+use Rattle.rule.specs.Scaled.{noughtOf}
 use Rattle.matrix.specs.declared.Fields.{Fields}
 
 -- M, how many pairs of variables there are

@@ -7,7 +7,7 @@ use lib.Dec.{eqb, ltb}
 use Rattle.verdict.specs.declared.Reason.{Reason}
 use Rattle.verdict.specs.declared.Reason.the-variants.{Zero, TooLarge, PaddedNumber, Mode, Reserved, ValueLength, Sparse, SizeOne, Empty, VectorEnd, ValueRange}
 use Rattle.verdict.specs.Rows.{Row, Blamed}
-use Rattle.word.specs.Rules.{allowed}
+use Rattle.rule.specs.Rules.{allowed}
 use Rattle.matrix.specs.declared.Fields.{Fields}
 use Rattle.matrix.specs.Meaning.{pairs, sum}
 use Rattle.matrix.specs.Spelling.{first, second, vectorBytes, bits}

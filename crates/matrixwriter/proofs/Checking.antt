@@ -11,7 +11,7 @@ use Rattle.verdict.specs.declared.Reason.{Reason}
 use Rattle.verdict.specs.declared.Reason.the-variants.{Empty, ValueRange, Disagree}
 use Rattle.verdict.specs.Rows.{Row, Blamed}
 use Rattle.verdict.proofs.Judging.{Kept}
-use Rattle.word.specs.Rules.{deviationRule, coefficientRule}
+use Rattle.rule.specs.Rules.{deviationRule, coefficientRule}
 use Rattle.matrix.specs.declared.Fields.{Fields}
 use Rattle.matrix.specs.Meaning.{pairs, sum}
 use Rattle.matrixwriter.specs.declared.check.Checked.{Checked}

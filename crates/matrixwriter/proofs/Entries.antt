@@ -9,8 +9,8 @@ use lib.Dec.{eqb, leb}
 use lib.ListN.{length, drop, getD}
 use lib.Seq.{getD-drop}
 use Rattle.verdict.proofs.Cases.{either}
-use Rattle.word.specs.declared.rules.Rule.{Rule}
-use Rattle.word.specs.Rules.{Keeps, admitted, cleared}
+use Rattle.rule.specs.declared.rules.Rule.{Rule}
+use Rattle.rule.specs.Rules.{Keeps, admitted, cleared}
 use Rattle.matrix.specs.declared.Fields.{Fields}
 use Rattle.matrixwriter.specs.Given.{sentWords, markFits, marksFit, sentFit}
 

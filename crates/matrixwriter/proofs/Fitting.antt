@@ -8,9 +8,9 @@ use native.Mathlib.Omega.{arith}
 use lib.Dec.{eqb, leb}
 use lib.ListN.{length, take, drop, getD, replicate}
 use Rattle.verdict.specs.declared.Refusal.{Refusal}
-use Rattle.word.specs.declared.rules.Rule.{Rule}
-use Rattle.word.specs.declared.rules.Ruled.the-variants.{By, Refused}
-use Rattle.word.specs.Rules.{admitted, allowed, ruledBy}
+use Rattle.rule.specs.declared.rules.Rule.{Rule}
+use Rattle.rule.specs.declared.rules.Ruled.the-variants.{By, Refused}
+use Rattle.rule.specs.Rules.{admitted, allowed, ruledBy}
 use Rattle.matrix.specs.declared.Fields.{Fields}
 use Rattle.matrix.specs.Meaning.{sum}
 use Rattle.matrixwriter.specs.declared.check.Marked.the-variants.{Fit, Unfit}

@@ -11,7 +11,7 @@ use lib.Seq.{length-take-le}
 use Rattle.verdict.proofs.Cases.{either, and-right}
 use Rattle.verdict.proofs.Deciding.{kept-both, both-kept}
 use Rattle.verdict.proofs.Judging.{Kept}
-use Rattle.word.specs.Rules.{Keeps, deviationRule, coefficientRule}
+use Rattle.rule.specs.Rules.{Keeps, deviationRule, coefficientRule}
 use Rattle.matrix.specs.declared.Fields.{Fields}
 use Rattle.matrix.specs.Meaning.{Matrix, pairs, sum, nought, LawfulFields, LawfulValues, Lawful}
 use Rattle.matrix.specs.Table.{fieldRows}

@@ -7,8 +7,8 @@ use native.Mathlib.Omega.{arith}
 use lib.ListN.{length, take, getD, length-append}
 use Rattle.verdict.specs.Writing.{put}
 use Rattle.verdict.proofs.Cases.{either}
-use Rattle.word.specs.Rules.{deviationRule, coefficientRule}
-use Rattle.word.proofs.Certain.{keeps-fits, deviation-sound, coefficient-sound, deviation-length, coefficient-length}
+use Rattle.rule.specs.Rules.{deviationRule, coefficientRule}
+use Rattle.rule.proofs.Certain.{keeps-fits, deviation-sound, coefficient-sound, deviation-length, coefficient-length}
 use Rattle.matrix.specs.declared.Fields.{Fields}
 use Rattle.matrix.specs.Meaning.{Matrix, pairs, sum, nought, Lawful}
 use Rattle.matrix.specs.Spelling.{control1, control2, vectorBytes, packed, spelled, bytesOf}

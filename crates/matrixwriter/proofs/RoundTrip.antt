@@ -16,7 +16,7 @@ use Rattle.verdict.specs.Writing.{roomRows, WrittenBy}
 use Rattle.verdict.proofs.Cases.{either}
 use Rattle.verdict.proofs.Deciding.{kept-both, both-kept, written-complete, kept-written}
 use Rattle.verdict.proofs.Judging.{Kept}
-use Rattle.word.specs.Rules.{Keeps, deviationRule}
+use Rattle.rule.specs.Rules.{Keeps, deviationRule}
 use Rattle.matrix.specs.declared.Fields.{Fields}
 use Rattle.matrix.specs.Meaning.{Matrix, pairs, nought, Lawful, LawfulValues}
 use Rattle.matrix.specs.Spelling.{bytesOf, meaningOf}

@@ -7,8 +7,8 @@ use lib.Dec.{eqb, leb, ltb}
 use Rattle.verdict.specs.declared.Reason.the-variants.{Empty, ValueRange, Disagree}
 use Rattle.verdict.specs.Rows.{Row}
 use Rattle.verdict.specs.Writing.{roomRows}
-use Rattle.word.specs.declared.rules.Rule.{Rule}
-use Rattle.word.specs.Rules.{admitted, deviationRule, coefficientRule}
+use Rattle.rule.specs.declared.rules.Rule.{Rule}
+use Rattle.rule.specs.Rules.{admitted, deviationRule, coefficientRule}
 use Rattle.matrix.specs.declared.Fields.{Fields}
 use Rattle.matrix.specs.Meaning.{Matrix, pairs, sum, nought}
 use Rattle.matrix.specs.Spelling.{bytesOf}

@@ -4,18 +4,18 @@ ghost use mathlib.Core.Bool.{cond};
 ghost use mathlib.Core.List.{_++_};
 ghost use Prim.Native.Nat.{_≤_, min};
 ghost use lib.ListN.{length, take, replicate};
-ghost use Rattle.word.specs.Rules.{deviationRule, coefficientRule};
+ghost use Rattle.rule.specs.Rules.{deviationRule, coefficientRule};
 ghost use Rattle.matrix.specs.Meaning.{pairs, sum, LawfulFields};
 ghost use Rattle.matrixwriter.specs.Given.{deviationMarks, sentFit, disagreeRows, valueRows, givenRows};
 ghost use Rattle.matrixwriter.specs.Checking.{markedOf, checkedOf, Enough};
 use matrix::Fields;
-use matrix::judge::judge_fields;
+use matrixreader::judge::judge_fields;
+use rule::rules::Rule;
+use rule::rules::Ruled;
+use rule::rules::coefficient_rule;
+use rule::rules::deviation_rule;
 use verdict::Judged;
 use verdict::Reason;
-use word::rules::Rule;
-use word::rules::Ruled;
-use word::rules::coefficient_rule;
-use word::rules::deviation_rule;
 
 // How many coefficients are sent, or that a mark does not fit.
 pub(crate) enum Marked {

@@ -1,6 +1,6 @@
 pub mod Octet
 pub mod Drawing
 pub mod Octets
+pub mod Counts
 pub mod Front
-pub mod Written
 pub mod Only

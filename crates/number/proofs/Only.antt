@@ -1,4 +1,4 @@
--- The contract of each public function, as the source states it, admits one answer, and of `write_at` one state of the lent list. Assumes nothing.
+-- The contract of each public function, as the source states it, admits one answer. Assumes nothing.
 use Prim.Native.Nat.{ℕ}
 use mathlib.Core.List.{List}
 use mathlib.Core.Path.{_≡_, ap₂, _∙_, sym}
@@ -6,9 +6,8 @@ use base.Logic.{ent}
 use contract.Lifetimes.{Lfts}
 use contract.Monad.{conj, conjL, conjR, fact, factI, fact-use}
 use borrow.Fn.World.{World, Pr, ArgsD, ResD}
-use borrow.Fn.Kinds.{Dens, resT, endedOf}
 use denote.Triple.Clauses.{AtExit}
-use denote.Ref.{RefT, now}
+use denote.Ref.{RefT}
 use Rattle.verdict.proofs.OneAnswer.{OneAnswer}
 use Rattle.number.proofs.effect_of.Kinds as effect-of
 use Rattle.number.proofs.effect_of.Reads as effect-of-reads
@@ -16,10 +15,6 @@ use Rattle.number.proofs.draw_at.Kinds as draw-at
 use Rattle.number.proofs.draw_at.Reads as draw-at-reads
 use Rattle.number.proofs.draw_from.Kinds as draw-from
 use Rattle.number.proofs.draw_from.Reads as draw-from-reads
-use Rattle.number.proofs.write.count_of.Kinds as count-of
-use Rattle.number.proofs.write.count_of.Reads as count-of-reads
-use Rattle.number.proofs.write.write_at.Kinds as write-at
-use Rattle.number.proofs.write.write_at.Reads as write-at-reads
 use Rattle.number.proofs.draw as draw
 use Rattle.number.proofs.numbers_at as numbers-at
 
@@ -50,13 +45,3 @@ module _ (w : World) (κs : Lfts 1) where
 
 pub draw-from-only : OneAnswer draw-from.ps draw-from.r draw-from-reads.Post
 draw-from-only κs a x y s t p q = p ∙ sym q
-
-pub count-of-only : OneAnswer count-of.ps count-of.r count-of-reads.Post
-count-of-only κs a x y s t p q = p ∙ sym q
-
-pub write-at-only : OneAnswer write-at.ps write-at.r write-at-reads.Post
-write-at-only κs a x y s t p q = p .said ∙ sym (q .said)
-
-pub write-at-leaves : (κs : Lfts 1) (a : Dens κs write-at.ps) (x y : resT write-at.r κs .Denot) (s t : AtExit (endedOf 1 write-at.ps write-at.r) κs)
-    → write-at-reads.Post κs a x s → write-at-reads.Post κs a y t → now (s .0) ≡ now (t .0)
-write-at-leaves κs a x y s t p q = p .left ∙ sym (q .left)

@@ -1,11 +1,9 @@
-// BER-OID numbers: what each octet does to a number, drawing one at a place, the reader that holds the lent bytes, and writing.
+// BER-OID numbers: what each octet does to a number, drawing one at a place, and the reader that holds the lent bytes.
 ghost use mathlib.Core.Path.{_≡_};
 ghost use Rattle.number.specs.Octet.{ended, goneOn, effectOf};
 ghost use Rattle.number.specs.Draw.{drawAt};
 use verdict::Reason;
 use verdict::Refusal;
-
-pub mod write;
 
 // What one octet does to a number begun: it ends the number, goes on with it, or is refused.
 pub enum Effect {

@@ -88,14 +88,14 @@ fn matrix_same(value: &[u8]) -> bool {
     let mut deviations = [0u64; 64];
     let mut coefficients = [0u64; 2016];
     let mut marks = [0u8; 2016];
-    let answer = matrix::read(value);
+    let answer = matrixreader::read(value);
     match answer {
-        matrix::Answer::Matrix { fields, .. } => {
+        matrixreader::Answer::Matrix { fields, .. } => {
             unpack::unpack(value, &mut deviations, &mut coefficients, &mut marks);
             matrix_rooms(fields, &deviations, &coefficients, &marks, value)
         }
-        matrix::Answer::Unfinished(_) => false,
-        matrix::Answer::Refused(_) => false,
+        matrixreader::Answer::Unfinished(_) => false,
+        matrixreader::Answer::Refused(_) => false,
     }
 }
 
@@ -123,7 +123,7 @@ fn array_rooms(sizes: &[usize], element: usize, array: &[u8], value: &[u8]) -> b
     exact & (short & longer)
 }
 
-fn listed(s: array::Sizes) -> [usize; 8] {
+fn listed(s: arrayreader::Sizes) -> [usize; 8] {
     [
         s.one,
         s.two,
@@ -138,13 +138,14 @@ fn listed(s: array::Sizes) -> [usize; 8] {
 
 // Whether an array pack, read, is written as it was.
 fn array_same(value: &[u8]) -> bool {
-    let answer = array::read(value);
+    let answer = arrayreader::read(value);
     match answer {
-        array::Answer::Array {
+        arrayreader::Answer::Array {
             dims,
             sizes,
             element,
             start,
+            length: _,
         } => {
             let list = listed(sizes);
             if dims > 8 {
@@ -155,8 +156,8 @@ fn array_same(value: &[u8]) -> bool {
             }
             array_rooms(&list[..dims], element, &value[start..], value)
         }
-        array::Answer::Unfinished(_) => false,
-        array::Answer::Refused(_) => false,
+        arrayreader::Answer::Unfinished(_) => false,
+        arrayreader::Answer::Refused(_) => false,
     }
 }
 

@@ -84,9 +84,9 @@ fn say(said: Verdict) {
 // The verdict on bytes as a pack of a row's kind.
 fn verdict_on(kind: u8, bytes: &[u8]) -> Verdict {
     match kind {
-        77 => array::verdict(bytes),
-        109 => array::verdict(bytes),
-        _ => matrix::verdict(bytes),
+        77 => arrayreader::verdict(bytes),
+        109 => arrayreader::verdict(bytes),
+        _ => matrixreader::verdict(bytes),
     }
 }
 
@@ -181,7 +181,7 @@ pub(crate) fn say_number(number: usize) {
     io::write_all(STDOUT_FILENO, b" ");
 }
 
-fn say_sizes(sizes: array::Sizes) {
+fn say_sizes(sizes: arrayreader::Sizes) {
     say_number(sizes.one);
     say_number(sizes.two);
     say_number(sizes.three);
@@ -194,13 +194,14 @@ fn say_sizes(sizes: array::Sizes) {
 
 // The numbers of a whole array pack; nothing of any other.
 fn say_read(bytes: &[u8]) {
-    let answer = array::read(bytes);
+    let answer = arrayreader::read(bytes);
     match answer {
-        array::Answer::Array {
+        arrayreader::Answer::Array {
             dims,
             sizes,
             element,
             start,
+            length: _,
         } => {
             io::write_all(STDOUT_FILENO, b"array ");
             say_number(dims);
@@ -208,21 +209,21 @@ fn say_read(bytes: &[u8]) {
             say_number(element);
             say_number(start);
         }
-        array::Answer::Unfinished(_) => {}
-        array::Answer::Refused(_) => {}
+        arrayreader::Answer::Unfinished(_) => {}
+        arrayreader::Answer::Refused(_) => {}
     }
 }
 
 fn say_address(bytes: &[u8], indices: &[usize]) {
-    let answer = array::address(bytes, indices);
+    let answer = arrayreader::address(bytes, indices);
     match answer {
-        array::Addressed::Offset(offset) => {
+        arrayreader::Addressed::Offset(offset) => {
             io::write_all(STDOUT_FILENO, b"offset ");
             io::print_decimal(STDOUT_FILENO, offset as u64);
             io::write_all(STDOUT_FILENO, b"\n");
         }
-        array::Addressed::Unfinished(missing) => say(Verdict::Unfinished(missing)),
-        array::Addressed::Refused(refusal) => say(Verdict::Refused(refusal)),
+        arrayreader::Addressed::Unfinished(missing) => say(Verdict::Unfinished(missing)),
+        arrayreader::Addressed::Refused(refusal) => say(Verdict::Refused(refusal)),
     }
 }
 

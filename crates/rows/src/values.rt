@@ -5,9 +5,9 @@ use crate::decimals;
 use crate::decode;
 use crate::say_verdict;
 use libc::STDOUT_FILENO;
+use rule::scaled::Scaled;
+use rule::scaled::scale;
 use verdict::Verdict;
-use word::scaled::Scaled;
-use word::scaled::scale;
 
 // What every entry holds before a call.
 const CANARY: u64 = 0xA5A5A5A5A5A5A5A5;

@@ -1,15 +1,15 @@
 // Checks a file of frames: a line of hexadecimal for each on standard input, a report line for each on standard output.
 ghost use Prim.Native.Nat.{_≤_};
 ghost use lib.ListN.{length};
-ghost use Rattle.frame.specs.Line.{longestLine};
-ghost use Rattle.frame.specs.Writing.{room};
-use frame::feed::Feeding;
-use frame::feed::State;
-use frame::feed::feed;
-use frame::feed::finish;
-use frame::feed::start;
+ghost use Rattle.report.specs.Line.{longestLine};
+ghost use Rattle.text.specs.Writing.{room};
 use libc::STDIN_FILENO;
 use libc::STDOUT_FILENO;
+use report::feed::Feeding;
+use report::feed::State;
+use report::feed::feed;
+use report::feed::finish;
+use report::feed::start;
 use verdict::Verdict;
 
 // Where the program stands: whether it goes on, whether a write failed, and the report's state.

@@ -10,7 +10,7 @@ use lib.Dec.{eqb}
 use lib.ListN.{length, take, getD}
 use Rattle.word.specs.Bytes.{wordAt}
 use Rattle.matrix.specs.declared.Fields.{Fields}
-use Rattle.matrix.specs.declared.walk.Found.{Found}
+use Rattle.matrixreader.specs.declared.walk.Found.{Found}
 use Rattle.matrix.specs.Meaning.{pairs, sum, nought}
 use Rattle.matrix.specs.Spelling.{vectorBytes, meaningOf}
 use Rattle.matrix.proofs.ControlBytes.{clen-small, slen-small}

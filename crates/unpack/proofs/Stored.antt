@@ -6,9 +6,9 @@ use mathlib.Core.Logic.{_≢_}
 use native.Mathlib.Nat.{pow-le-pow-right}
 use native.Mathlib.Omega.{arith}
 use lib.IntN.{pos}
-use Rattle.word.specs.declared.scaled.Scaled.the-variants.{Value}
-use Rattle.word.specs.Scaled.{noughtOf, scaledOf}
-use Rattle.word.proofs.Scales.{scaled-nought}
+use Rattle.rule.specs.declared.scaled.Scaled.the-variants.{Value}
+use Rattle.rule.specs.Scaled.{noughtOf, scaledOf}
+use Rattle.rule.proofs.Scales.{scaled-nought}
 use Rattle.matrix.specs.declared.Fields.{Fields}
 use Rattle.matrix.specs.Meaning.{Matrix, Lawful, sum, nought}
 use Rattle.matrix.specs.Spelling.{vectorBytes, packed, bits}

@@ -11,7 +11,7 @@ use crate::words::nought_of;
 use crate::words::too_small;
 use crate::words::word_at;
 use crate::words::word_or;
-use matrix::walk::Found;
+use matrixreader::walk::Found;
 use verdict::Verdict;
 
 // Where the coefficients have got to: the place of the next one, and its pair.

@@ -1,9 +1,4 @@
 pub mod Digits
 pub mod Filled
-pub mod Signed
-pub mod Ruling
-pub mod Certain
-pub mod Constants
-pub mod Scales
 pub mod Written
 pub mod Only

@@ -1,4 +1,2 @@
 pub mod Digits
 pub mod Bytes
-pub mod Rules
-pub mod Scaled

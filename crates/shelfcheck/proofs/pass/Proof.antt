@@ -8,9 +8,9 @@ use denote.Ref.{now}
 use lib.ListN.{length, take, drop, length-take, length-drop}
 use lib.Seq.{length-take-le}
 use mathlib.Core.List.{List}
-use Rattle.frame.specs.declared.feed.Feeding.{Feeding}
-use Rattle.frame.specs.Feeding.{FedBy}
-use Rattle.frame.proofs.Progress.{Forward, fed-forward}
+use Rattle.report.specs.declared.feed.Feeding.{Feeding}
+use Rattle.report.specs.Feeding.{FedBy}
+use Rattle.report.proofs.Progress.{Forward, fed-forward}
 use borrow.Author.Needs.{needs}
 use Rattle.shelfcheck.proofs.pass.Statement.{statement}
 use Rattle.shelfcheck.proofs.pass.Tie as tie

@@ -6,7 +6,7 @@ use native.Mathlib.Omega.{arith}
 use borrow.Author.Needs.{needs}
 use lib.ListN.{length}
 use Rattle.verdict.proofs.Deciding.{room-missing, room-enough}
-use Rattle.number.proofs.Written.{octets-short}
+use Rattle.number.proofs.Counts.{octets-short}
 use Rattle.array.specs.Spelling.{bytesOf}
 use Rattle.array.proofs.Decoding.{pack-length}
 use Rattle.arraywriter.specs.Given.{meaningGiven}

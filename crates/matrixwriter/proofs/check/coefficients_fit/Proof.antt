@@ -1,6 +1,6 @@
 -- `matrixwriter::check::coefficients_fit` meets its contract. Assumes nothing.
 use mathlib.Core.Path.{_≡_, sym, _∙_}
-use Rattle.word.specs.Rules.{coefficientRule}
+use Rattle.rule.specs.Rules.{coefficientRule}
 use Rattle.matrixwriter.proofs.Fitting.{ruled-by, ruled-never}
 use borrow.Author.Needs.{needs}
 use Rattle.matrixwriter.proofs.check.coefficients_fit.Statement.{statement}

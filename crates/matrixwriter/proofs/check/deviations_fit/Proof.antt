@@ -2,7 +2,7 @@
 use mathlib.Core.Path.{sym, _∙_}
 use native.Mathlib.Omega.{arith}
 use denote.Ref.{now}
-use Rattle.word.specs.Rules.{deviationRule}
+use Rattle.rule.specs.Rules.{deviationRule}
 use Rattle.matrixwriter.proofs.Fitting.{ruled-by, ruled-never, no-deviations-fit, all-deviations-fit}
 use borrow.Author.Needs.{needs}
 use Rattle.matrixwriter.proofs.check.deviations_fit.Statement.{statement}

@@ -1,0 +1,4 @@
+pub mod Walking
+pub mod EightSizes
+pub mod Answers
+pub mod Only

@@ -1,0 +1,119 @@
+// Whether a byte keeps the rules of its field: document 01's table, in its order.
+ghost use mathlib.Core.Path.{_≡_};
+ghost use Prim.Native.Nat.{_≤_, _-_, _*_};
+ghost use Rattle.rule.specs.Rules.{allowed};
+ghost use Rattle.matrix.specs.Meaning.{pairs};
+ghost use Rattle.matrix.specs.Spelling.{vectorBytes};
+ghost use Rattle.matrix.specs.Table.{sizeRows, coefficientRows, deviationRows, control1Rows, control2Rows, fieldRows, vectorRows};
+ghost use Rattle.verdict.specs.Judgement.{judgement};
+use matrix::Fields;
+use verdict::Judged;
+use verdict::Reason;
+
+// Whether a format allows a length.
+fn allows(mapped: bool, length: usize) -> bool
+    ensures { λ r. ⌜ r ≡ allowed mapped length ⌝ }
+{
+    if mapped {
+        length <= 8
+    } else {
+        (length == 0) | ((length == 2) | ((length == 4) | (length == 8)))
+    }
+}
+
+pub(crate) fn judge_size(b: usize) -> Judged
+    ensures { λ r. ⌜ r ≡ judgement (sizeRows b) ⌝ }
+{
+    if b == 0 {
+        return Judged::Broken(Reason::Zero);
+    }
+    if b == 0x80 {
+        return Judged::Broken(Reason::PaddedNumber);
+    }
+    if 64 < b {
+        return Judged::Broken(Reason::TooLarge);
+    }
+    Judged::Kept
+}
+
+fn judge_coefficients(f: Fields) -> Judged
+    ensures { λ r. ⌜ r ≡ judgement (coefficientRows f) ⌝ }
+{
+    if !allows(f.cf, f.clen) {
+        return Judged::Broken(Reason::ValueLength);
+    }
+    if f.cs & (f.clen == 0) {
+        return Judged::Broken(Reason::Sparse);
+    }
+    if (f.n == 1) & (0 < f.clen) {
+        return Judged::Broken(Reason::SizeOne);
+    }
+    Judged::Kept
+}
+
+fn judge_deviations(f: Fields) -> Judged
+    ensures { λ r. ⌜ r ≡ judgement (deviationRows f) ⌝ }
+{
+    if !allows(f.sf, f.slen) {
+        return Judged::Broken(Reason::ValueLength);
+    }
+    if (f.slen == 0) & (f.clen == 0) {
+        return Judged::Broken(Reason::Empty);
+    }
+    Judged::Kept
+}
+
+pub(crate) fn judge_control1(f: Fields, b: usize) -> Judged
+    ensures { λ r. ⌜ r ≡ judgement (control1Rows f b) ⌝ }
+{
+    if b / 128 == 0 {
+        return Judged::Broken(Reason::Mode);
+    }
+    if b / 64 % 2 == 1 {
+        return Judged::Broken(Reason::Reserved);
+    }
+    judge_coefficients(f)
+}
+
+pub(crate) fn judge_control2(f: Fields, b: usize) -> Judged
+    ensures { λ r. ⌜ r ≡ judgement (control2Rows f b) ⌝ }
+{
+    if b / 128 == 1 {
+        return Judged::Broken(Reason::Mode);
+    }
+    if b / 32 % 4 != 0 {
+        return Judged::Broken(Reason::Reserved);
+    }
+    judge_deviations(f)
+}
+
+// Fields that a writer is given.
+pub fn judge_fields(f: Fields) -> Judged
+    ensures { λ r. ⌜ r ≡ judgement (fieldRows f) ⌝ }
+{
+    if f.n == 0 {
+        return Judged::Broken(Reason::Zero);
+    }
+    if 64 < f.n {
+        return Judged::Broken(Reason::TooLarge);
+    }
+    let judged = judge_coefficients(f);
+    match judged {
+        Judged::Kept => judge_deviations(f),
+        Judged::Broken(reason) => Judged::Broken(reason),
+    }
+}
+
+// The last byte of a vector with so many unused bits and, in all, so many ones.
+pub(crate) fn judge_vector(f: Fields, sent: usize, b: usize, unused: usize) -> Judged
+    requires { ⌜ (unused ≤ 7) × (unused ≡ vectorBytes f * 8 - pairs (f .n)) ⌝ }
+    ensures { λ r. ⌜ r ≡ judgement (vectorRows f sent b) ⌝ }
+{
+    if b % (1 << unused) != 0 {
+        return Judged::Broken(Reason::VectorEnd);
+    }
+    if (f.slen == 0) & (sent == 0) {
+        return Judged::Broken(Reason::Empty);
+    }
+    Judged::Kept
+}

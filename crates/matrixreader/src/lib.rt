@@ -1,0 +1,52 @@
+// Reading matrix packs: the verdict on a string of bytes, and the fields of a pack.
+ghost use mathlib.Core.Path.{_≡_};
+ghost use Rattle.matrix.specs.Machine.{verdictOf};
+ghost use Rattle.matrixreader.specs.Reading.{readOf};
+use crate::walk::Walked;
+use matrix::Fields;
+use verdict::Refusal;
+use verdict::Verdict;
+
+mod control;
+mod header;
+pub mod judge;
+mod vector;
+pub mod walk;
+mod words;
+
+// What reading a matrix pack answers: its fields and its length, or the verdict where it is not complete.
+pub enum Answer {
+    Matrix { fields: Fields, length: usize },
+    Unfinished(usize),
+    Refused(Refusal),
+}
+
+// The verdict on a string of bytes as a matrix pack.
+pub fn verdict(bytes: &[u8]) -> Verdict
+    ensures { λ r. ⌜ r ≡ verdictOf (now (bytes .entry)) ⌝ }
+{
+    let walked = walk::walk(bytes);
+    match walked {
+        Walked::Whole(found) => Verdict::Complete(found.length),
+        Walked::Unfinished(missing) => Verdict::Unfinished(missing),
+        Walked::Refused(refusal) => Verdict::Refused(refusal),
+    }
+}
+
+// The size and the control fields of the matrix pack that the bytes begin with.
+pub fn read(bytes: &[u8]) -> Answer
+    ensures { λ r. ⌜ r ≡ readOf (now (bytes .entry)) ⌝ }
+{
+    let walked = walk::walk(bytes);
+    match walked {
+        Walked::Whole(found) => {
+            let fields = found.fields;
+            Answer::Matrix {
+                fields,
+                length: found.length,
+            }
+        }
+        Walked::Unfinished(missing) => Answer::Unfinished(missing),
+        Walked::Refused(refusal) => Answer::Refused(refusal),
+    }
+}

@@ -1,0 +1,2 @@
+// Writing BER-OID numbers.
+pub mod write;

@@ -1,0 +1,44 @@
+-- Laws of a line's end: one that is closed is written, and so is one that is open behind the last chunk. Assumes nothing.
+use Prim.Native.Nat.{ℕ, _+_, _≤_}
+use mathlib.Core.Path.{_≡_, _∙_, sym, ap, subst}
+use mathlib.Core.Bool.{false}
+use mathlib.Core.List.{List}
+use native.Mathlib.Omega.{arith}
+use borrow.Author.Tests.{le-ltb, eq-eqb, ne-eqb}
+use lib.Dec.{ltb}
+use lib.ListN.{length}
+use Rattle.verdict.specs.declared.Verdict.{Verdict}
+use Rattle.verdict.specs.declared.Verdict.the-variants.{Complete}
+use Rattle.verdict.specs.Writing.{put, decided}
+use Rattle.verdict.proofs.Putting.{put-none}
+use Rattle.frame.specs.declared.Kind.the-variants.{Unknown}
+use Rattle.frame.specs.declared.Outcome.the-variants.{Open}
+use Rattle.frame.specs.declared.Answer.{Answer}
+use Rattle.text.specs.Text.{textOf}
+use Rattle.text.specs.Writing.{room, WrittenLine}
+use Rattle.text.proofs.Lines.{line-left, line-counted}
+use Rattle.report.specs.declared.feed.State.{State}
+use Rattle.report.specs.Feeding.{heldAnswer, Closed, Finished}
+
+-- where any line has room, the line that is held is closed
+module _ (number : ℕ) (answer : Answer) (out : List ℕ) (place : ℕ) (verdict : Verdict) (out′ : List ℕ) (h : place + room ≤ length out) (w : WrittenLine number answer out place verdict out′) where
+  pub line-closed : (buffer : List ℕ) (held : ℕ) → answer ≡ heldAnswer buffer held → (n : ℕ) → verdict ≡ Complete n → Closed number buffer held out place (place + n) out′
+  line-closed buffer held a n e =
+      let m : n ≡ length (textOf number answer) = line-counted number answer out place verdict out′ h w n e in
+      record {
+        short = subst (λ (x : Answer). length (textOf number x) ≤ room) a (w .short);
+        behind = ap (λ (k : ℕ). place + k) m ∙ ap (λ (x : Answer). place + length (textOf number x)) a;
+        wrote = line-left number answer out place verdict out′ h w ∙ ap (λ (x : Answer). put out place (textOf number x)) a;
+      }
+
+-- behind the last chunk: no line is open, or one that is written
+module _ (state : State) (out : List ℕ) where
+  pub finished-none : state .held ≡ 0 → Finished state out (Complete 0) out
+  unfolding decided
+  finished-none e =
+      let t = eq-eqb (state .held) 0 e in
+      let z : ltb (length out) (0 + 0) ≡ false = le-ltb (length out) (0 + 0) (omega arith) in
+      record { said = rw (t, z); left = rw (t, z) (sym (put-none out 0)) }
+
+  pub finished-open : (state .held ≡ 0 → ⊥) → (verdict : Verdict) (out′ : List ℕ) → WrittenLine (state .number) (record { kind = Unknown; outcome = Open }) out 0 verdict out′ → Finished state out verdict out′
+  finished-open n verdict out′ w = let t = ne-eqb (state .held) 0 n in rw t (w .written)

@@ -1,0 +1,7 @@
+pub mod DigitPairs
+pub mod Keeping
+pub mod Closing
+pub mod Reporting
+pub mod Chunks
+pub mod Progress
+pub mod Only

@@ -1,0 +1,3 @@
+// Lines of hexadecimal, one frame each, and the report on an input that is fed in chunks.
+pub mod feed;
+mod hex;

@@ -1,0 +1,6 @@
+pub mod Signed
+pub mod Ruling
+pub mod Certain
+pub mod Constants
+pub mod Scales
+pub mod Only

@@ -1,0 +1,23 @@
+-- `rules::deviation_rule` meets its contract: each arm's rule is the one of its format. Assumes nothing.
+use mathlib.Core.Path.{_∙_}
+use Rattle.rule.specs.Rules.{deviationRule}
+use Rattle.rule.proofs.Ruling.{ruled-in}
+use borrow.Author.Needs.{needs}
+use Rattle.rule.proofs.rules.deviation_rule.Statement.{statement}
+use Rattle.rule.proofs.rules.deviation_rule.Tie as tie
+
+mapped-rule-requires : tie.Need-mapped-rule-requires
+mapped-rule-requires c κs = search needs
+
+ieee-rule-requires : tie.Need-ieee-rule-requires
+ieee-rule-requires c κs = search needs
+
+returns : tie.Need-returns
+returns c = c .mapped-rule .ensures ∙ ruled-in deviationRule (c .before .before .args .length) (c .before .if1 .taken)
+
+returns-2 : tie.Need-returns-2
+returns-2 c = c .ieee-rule .ensures ∙ ruled-in deviationRule (c .before .before .args .length) (c .before .if1 .left)
+
+pub deviation-rule-spec : {M : Type 1} → statement M
+deviation-rule-spec =
+    tie.close (tie.spec mapped-rule-requires ieee-rule-requires returns returns-2)

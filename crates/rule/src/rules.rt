@@ -1,0 +1,207 @@
+// The rules that words keep: of the IEEE formats, one type per width, and of mapped words of any length.
+ghost use mathlib.Core.Path.{_≡_};
+ghost use mathlib.Core.Bool.{true, false, cond};
+ghost use lib.Dec.{eqb};
+ghost use Rattle.rule.specs.Rules.{admitted, mappedRule, half, single, double, deviations, coefficients, deviationRule, coefficientRule, ruledBy};
+use verdict::Reason;
+use verdict::Refusal;
+
+// With its sign cleared, a word of `length` bytes is at most `greatest`. A sign of 0 is none.
+pub struct Rule {
+    pub length: usize,
+    pub sign: u64,
+    pub greatest: u64,
+}
+
+impl Rule {
+    // Whether a word keeps the rule.
+    pub fn admits(self, word: u64) -> bool
+        ensures { λ r. ⌜ r ≡ admitted self word ⌝ }
+    {
+        if self.sign <= word {
+            word - self.sign <= self.greatest
+        } else {
+            word <= self.greatest
+        }
+    }
+}
+
+// IEEE words of 2 bytes: the greatest deviation, the one, and the checks that they make.
+pub struct Half;
+
+impl Half {
+    pub const GREATEST: u64 = 0x7BFF;
+
+    pub const ONE: u64 = 0x3C00;
+
+    const DEVIATIONS: Rule = Rule {
+        length: 2,
+        sign: 0,
+        greatest: Half::GREATEST,
+    };
+
+    const COEFFICIENTS: Rule = Rule {
+        length: 2,
+        sign: 0x8000,
+        greatest: Half::ONE,
+    };
+
+    pub fn deviation(word: u64) -> bool
+        ensures { λ r. ⌜ r ≡ admitted (deviations half) word ⌝ }
+    {
+        Half::DEVIATIONS.admits(word)
+    }
+
+    pub fn coefficient(word: u64) -> bool
+        ensures { λ r. ⌜ r ≡ admitted (coefficients half) word ⌝ }
+    {
+        Half::COEFFICIENTS.admits(word)
+    }
+}
+
+// IEEE words of 4 bytes: the greatest deviation, the one, and the checks that they make.
+pub struct Single;
+
+impl Single {
+    pub const GREATEST: u64 = 0x7F7F_FFFF;
+
+    pub const ONE: u64 = 0x3F80_0000;
+
+    const DEVIATIONS: Rule = Rule {
+        length: 4,
+        sign: 0,
+        greatest: Single::GREATEST,
+    };
+
+    const COEFFICIENTS: Rule = Rule {
+        length: 4,
+        sign: 0x8000_0000,
+        greatest: Single::ONE,
+    };
+
+    pub fn deviation(word: u64) -> bool
+        ensures { λ r. ⌜ r ≡ admitted (deviations single) word ⌝ }
+    {
+        Single::DEVIATIONS.admits(word)
+    }
+
+    pub fn coefficient(word: u64) -> bool
+        ensures { λ r. ⌜ r ≡ admitted (coefficients single) word ⌝ }
+    {
+        Single::COEFFICIENTS.admits(word)
+    }
+}
+
+// IEEE words of 8 bytes: the greatest deviation, the one, and the checks that they make.
+pub struct Double;
+
+impl Double {
+    pub const GREATEST: u64 = 0x7FEF_FFFF_FFFF_FFFF;
+
+    pub const ONE: u64 = 0x3FF0_0000_0000_0000;
+
+    const DEVIATIONS: Rule = Rule {
+        length: 8,
+        sign: 0,
+        greatest: Double::GREATEST,
+    };
+
+    const COEFFICIENTS: Rule = Rule {
+        length: 8,
+        sign: 0x8000_0000_0000_0000,
+        greatest: Double::ONE,
+    };
+
+    pub fn deviation(word: u64) -> bool
+        ensures { λ r. ⌜ r ≡ admitted (deviations double) word ⌝ }
+    {
+        Double::DEVIATIONS.admits(word)
+    }
+
+    pub fn coefficient(word: u64) -> bool
+        ensures { λ r. ⌜ r ≡ admitted (coefficients double) word ⌝ }
+    {
+        Double::COEFFICIENTS.admits(word)
+    }
+}
+
+// The rule for a format and length, or the refusal of that length.
+pub enum Ruled {
+    By(Rule),
+    Refused(Refusal),
+}
+
+fn refused() -> Ruled
+    ensures { λ r. ⌜ r ≡ Ruled.Refused (record { reason = Reason.ValueLength; place = 0 }) ⌝ }
+{
+    Ruled::Refused(Refusal {
+        reason: Reason::ValueLength,
+        place: 0,
+    })
+}
+
+// Mapped words, at most half of the words of their length.
+fn mapped_rule(length: usize) -> Ruled
+    ensures { λ r. ⌜ r ≡ ruledBy true length (mappedRule length) ⌝ }
+{
+    if 8 < length {
+        return refused();
+    }
+    if length == 0 {
+        return Ruled::By(Rule {
+            length: 0,
+            sign: 0,
+            greatest: 0,
+        });
+    }
+    Ruled::By(Rule {
+        length,
+        sign: 0,
+        greatest: 1 << (8 * length - 1),
+    })
+}
+
+// The rule of an IEEE length: of two, of four or of eight bytes; in 0 bytes only the word 0.
+fn ieee_rule(length: usize, two: Rule, four: Rule, eight: Rule) -> Ruled
+    ensures { λ r. ⌜ r ≡ ruledBy false length (cond (eqb length 2) two (cond (eqb length 4) four (cond (eqb length 8) eight (mappedRule 0)))) ⌝ }
+{
+    match length {
+        0 => mapped_rule(0),
+        2 => Ruled::By(two),
+        4 => Ruled::By(four),
+        8 => Ruled::By(eight),
+        _ => refused(),
+    }
+}
+
+// The rule of deviations.
+pub fn deviation_rule(mapped: bool, length: usize) -> Ruled
+    ensures { λ r. ⌜ r ≡ ruledBy mapped length (deviationRule mapped length) ⌝ }
+{
+    if mapped {
+        mapped_rule(length)
+    } else {
+        ieee_rule(
+            length,
+            Half::DEVIATIONS,
+            Single::DEVIATIONS,
+            Double::DEVIATIONS,
+        )
+    }
+}
+
+// The rule of coefficients.
+pub fn coefficient_rule(mapped: bool, length: usize) -> Ruled
+    ensures { λ r. ⌜ r ≡ ruledBy mapped length (coefficientRule mapped length) ⌝ }
+{
+    if mapped {
+        mapped_rule(length)
+    } else {
+        ieee_rule(
+            length,
+            Half::COEFFICIENTS,
+            Single::COEFFICIENTS,
+            Double::COEFFICIENTS,
+        )
+    }
+}

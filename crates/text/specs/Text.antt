@@ -1,0 +1,57 @@
+-- The text of a report line: its number, kind, word, two numbers, LF, in ASCII.
+use Prim.Native.Nat.{ℕ, zero, suc, _+_, _/_, _%_}
+use mathlib.Core.Bool.{cond}
+use mathlib.Core.List.{List, [], _∷_, _++_}
+use lib.Dec.{ltb}
+use Rattle.verdict.specs.Numbers.{numberOf}
+use Rattle.frame.specs.declared.Kind.{Kind}
+use Rattle.frame.specs.declared.Kind.the-variants.{Matrix, Array, Unknown}
+use Rattle.frame.specs.declared.Outcome.{Outcome}
+use Rattle.frame.specs.declared.Outcome.the-variants.{Ok, Cut, Bad, Open}
+use Rattle.frame.specs.declared.Answer.{Answer}
+
+-- S a matrix, M an array, - where the key is not known
+abbrev pub letterOf : Kind → ℕ
+letterOf Matrix = 83
+letterOf Array = 77
+letterOf Unknown = 45
+
+-- OK, CUT, BAD, OPEN
+abbrev pub wordOf : Outcome → List ℕ
+wordOf (Ok count) = 79 ∷ 75 ∷ []
+wordOf (Cut missing) = 67 ∷ 85 ∷ 84 ∷ []
+wordOf (Bad refusal) = 66 ∷ 65 ∷ 68 ∷ []
+wordOf Open = 79 ∷ 80 ∷ 69 ∷ 78 ∷ []
+
+-- the two numbers: the value's length, 0; the missing bytes, 0; the reason, the place; 0, 0
+abbrev pub firstOf : Outcome → ℕ
+firstOf (Ok count) = count
+firstOf (Cut missing) = missing
+firstOf (Bad refusal) = numberOf (refusal .reason)
+firstOf Open = 0
+
+abbrev pub secondOf : Outcome → ℕ
+secondOf (Ok count) = 0
+secondOf (Cut missing) = 0
+secondOf (Bad refusal) = refusal .place
+secondOf Open = 0
+
+-- a number's decimal digits, at most one more than so many
+unfoldable pub decimalIn : ℕ → ℕ → List ℕ
+decimalIn zero n = (48 + n % 10) ∷ []
+decimalIn (suc more) n = let before = decimalIn more (n / 10) in cond (ltb n 10) ((48 + n) ∷ []) (before ++ ((48 + n % 10) ∷ []))
+
+-- a number has fewer digits than ones, but for 0
+unfoldable pub decimal : ℕ → List ℕ
+decimal n = decimalIn n n
+
+-- a line's number, kind and word
+abbrev pub headOf : ℕ → Answer → List ℕ
+headOf number answer = decimal number ++ (32 ∷ letterOf (answer .kind) ∷ 32 ∷ wordOf (answer .outcome))
+
+-- its two numbers and LF
+abbrev pub tailOf : Outcome → List ℕ
+tailOf outcome = 32 ∷ decimal (firstOf outcome) ++ (32 ∷ decimal (secondOf outcome) ++ (10 ∷ []))
+
+abbrev pub textOf : ℕ → Answer → List ℕ
+textOf number answer = headOf number answer ++ tailOf (answer .outcome)
