@@ -9,7 +9,7 @@ use borrow.Author.Tests.{ltb-true, ltb-false, ne-eqb}
 use lib.Dec.{eqb, ltb}
 use lib.Pow.{pow-add, pow-lt, shl-shr}
 use lib.ListN.{length, take, drop, getD, replicate, length-append, length-take, length-drop}
-use lib.Seq.{take-suc, getD-drop}
+use lib.Seq.{take-suc, getD-drop, length-take-le}
 use Rattle.word.specs.Digits.{digits, valueOn, valueOf}
 use Rattle.word.specs.Bytes.{wordAt}
 
@@ -100,6 +100,9 @@ digits-value b (d ∷ ds) f =
     let g : Below b ds = λ i. f (suc i) in
     let e : valueOn b (0 * b + d) ds ≡ d * b ^ length ds + valueOf b ds = valueOn-split b (0 * b + d) ds ∙ omega arith in
     ap (digits b (suc (length ds))) e ∙ digits-front b (length ds) d (valueOf b ds) (f 0) (value-below b ds g) ∙ ap (λ (r : List ℕ). d ∷ r) (digits-value b ds g)
+
+pub digits-take : (b n : ℕ) (ds : List ℕ) → Below b ds → n ≤ length ds → digits b n (valueOf b (take n ds)) ≡ take n ds
+digits-take b n ds f h = ap (λ (k : ℕ). digits b k (valueOf b (take n ds))) (sym (length-take-le n ds h)) ∙ digits-value b (take n ds) (below-take n ds f)
 
 -- one digit more
 pub value-more : (b : ℕ) (ds : List ℕ) (i : ℕ) → i < length ds → valueOf b (take (suc i) ds) ≡ valueOf b (take i ds) * b + getD ds i 0

@@ -14,8 +14,8 @@ use Rattle.verdict.specs.Writing.{put, refusing, decided}
 use Rattle.verdict.proofs.Deciding.{decided-kept}
 use Rattle.verdict.proofs.Judging.{Kept}
 use Rattle.verdict.proofs.Putting.{put-none, put-before}
-use Rattle.word.specs.Digits.{digits}
-use Rattle.word.specs.Bytes.{writerRows, Written}
+use Rattle.word.specs.Digits.{digits, valueOf}
+use Rattle.word.specs.Bytes.{wordAt, writerRows, Written}
 use Rattle.word.proofs.Digits.{length-digits}
 
 -- one byte more in the first of eight
@@ -27,6 +27,10 @@ eight-more s place i h k =
     rw e
     (set-at (take i (drop place s)) 0 (replicate (8 - suc i) 0) (getD s (place + i) 0) i (length-take-le i (drop place s) (omega arith))
     ∙ sym (rw (take-suc (drop place s) i 0 inside, getD-drop) (append-snoc (take i (drop place s)) (getD s (place + i) 0) (replicate (8 - suc i) 0))))
+
+-- the first n of eight have the word's value
+pub eight-word : (s : List ℕ) (place n : ℕ) → n ≤ length s - place → valueOf 256 (take n (take n (drop place s) ++ replicate (8 - n) 0)) ≡ wordAt s place n
+eight-word s place n h = ap (valueOf 256) (take-at (take n (drop place s)) (replicate (8 - n) 0) n (length-take-le n (drop place s) (rw length-drop h)))
 
 -- a word of n bytes is stored but for its first `left`, which are those of `rest`
 pub record Stored (out₀ : List ℕ) (place n word left rest : ℕ) (out : List ℕ) : Type 0 where

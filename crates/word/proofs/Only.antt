@@ -1,4 +1,4 @@
--- The contract of each public function, as the source states it, admits one answer, and of `write_at` one state of the lent list. Assumes nothing.
+-- The contract of each public function, as the source states it, admits one answer, and of those that write one state of the lent list. Assumes nothing.
 use mathlib.Core.Path.{_≡_, _∙_, sym}
 use contract.Lifetimes.{Lfts}
 use borrow.Fn.Kinds.{Dens, resT, endedOf}
@@ -9,6 +9,10 @@ use Rattle.word.proofs.bytes.write_at.Kinds as write-at
 use Rattle.word.proofs.bytes.write_at.Reads as write-at-reads
 use Rattle.word.proofs.bytes.read_at.Kinds as read-at
 use Rattle.word.proofs.bytes.read_at.Reads as read-at-reads
+use Rattle.word.proofs.many.read_all.Kinds as read-all
+use Rattle.word.proofs.many.read_all.Reads as read-all-reads
+use Rattle.word.proofs.many.write_all.Kinds as write-all
+use Rattle.word.proofs.many.write_all.Reads as write-all-reads
 
 pub write-at-only : OneAnswer write-at.ps write-at.r write-at-reads.Post
 write-at-only κs a x y s t p q = p .said ∙ sym (q .said)
@@ -19,3 +23,17 @@ write-at-leaves κs a x y s t p q = p .left ∙ sym (q .left)
 
 pub read-at-only : OneAnswer read-at.ps read-at.r read-at-reads.Post
 read-at-only κs a x y s t p q = p ∙ sym q
+
+pub read-all-only : OneAnswer read-all.ps read-all.r read-all-reads.Post
+read-all-only κs a x y s t p q = p .said ∙ sym (q .said)
+
+pub read-all-leaves : (κs : Lfts 2) (a : Dens κs read-all.ps) (x y : resT read-all.r κs .Denot) (s t : AtExit (endedOf 2 read-all.ps read-all.r) κs)
+    → read-all-reads.Post κs a x s → read-all-reads.Post κs a y t → now (s .1 .1 .0) ≡ now (t .1 .1 .0)
+read-all-leaves κs a x y s t p q = p .left ∙ sym (q .left)
+
+pub write-all-only : OneAnswer write-all.ps write-all.r write-all-reads.Post
+write-all-only κs a x y s t p q = p .said ∙ sym (q .said)
+
+pub write-all-leaves : (κs : Lfts 2) (a : Dens κs write-all.ps) (x y : resT write-all.r κs .Denot) (s t : AtExit (endedOf 2 write-all.ps write-all.r) κs)
+    → write-all-reads.Post κs a x s → write-all-reads.Post κs a y t → now (s .0) ≡ now (t .0)
+write-all-leaves κs a x y s t p q = p .left ∙ sym (q .left)

@@ -1,6 +1,6 @@
 -- Reading what was written gives the word, and writing what was read leaves the bytes. Assumes nothing.
 use Prim.Native.Nat.{ℕ, zero, suc, _+_, _-_, _^_, _≤_, _<_}
-use mathlib.Core.Path.{_≡_, refl, _∙_, sym, ap}
+use mathlib.Core.Path.{_≡_, refl, _∙_, ap}
 use mathlib.Core.Bool.{Bool, true, false, cond}
 use mathlib.Core.List.{List}
 use native.Mathlib.Omega.{arith}
@@ -16,7 +16,7 @@ use Rattle.verdict.proofs.Putting.{drop-put}
 use Rattle.word.specs.declared.bytes.Read.the-variants.{Word, Unfinished, Refused}
 use Rattle.word.specs.Digits.{digits, valueOf}
 use Rattle.word.specs.Bytes.{wordAt, readOf, writerRows, Written}
-use Rattle.word.proofs.Digits.{Below, below-take, below-drop, length-digits, value-digits, digits-value}
+use Rattle.word.proofs.Digits.{Below, below-drop, length-digits, value-digits, digits-take}
 
 put-length : (out : List ℕ) (place n word : ℕ) → n ≤ length out - place → length (put out place (digits 256 n word)) ≡ length out
 unfolding put
@@ -57,8 +57,7 @@ pub written-read : (s : List ℕ) (place n w : ℕ) → Below 256 s → readOf s
 unfolding put
 written-read s place n w f e =
     let t = read-there s place n w e in
-    let ds : List ℕ = take n (drop place s) in
-    let l : length (take n (drop place s)) ≡ n = length-take-le n (drop place s) (rw length-drop (t .0)) in
-    let d : digits 256 n w ≡ take n (drop place s) =
-    ap (digits 256 n) (t .1) ∙ ap (λ (k : ℕ). digits 256 k (wordAt s place n)) (sym l) ∙ digits-value 256 ds (below-take n (drop place s) (below-drop place s f)) in
+    let there : n ≤ length (drop place s) = rw length-drop (t .0) in
+    let l : length (take n (drop place s)) ≡ n = length-take-le n (drop place s) there in
+    let d : digits 256 n w ≡ take n (drop place s) = ap (digits 256 n) (t .1) ∙ digits-take 256 n (drop place s) (below-drop place s f) there in
     rw (d, l, ← drop-drop, take-append-drop, take-append-drop)

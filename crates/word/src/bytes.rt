@@ -26,7 +26,7 @@ fn from_place(whole: usize, place: usize) -> usize
 }
 
 // The word's bytes, in the first of eight.
-fn eight_at(bytes: &[u8], place: usize, length: usize) -> [u8; 8]
+pub(crate) fn eight_at(bytes: &[u8], place: usize, length: usize) -> [u8; 8]
     requires { ⌜ (length ≤ 8) × (length ≤ count (now bytes) - place) ⌝ }
     ensures { λ r. ⌜ r ≡ take length (drop place (now (bytes .entry))) ++ replicate (8 - length) 0 ⌝ }
 {
@@ -40,7 +40,7 @@ fn eight_at(bytes: &[u8], place: usize, length: usize) -> [u8; 8]
 }
 
 // The value of the first `length` of eight bytes.
-fn value_of(eight: [u8; 8], length: usize) -> u64
+pub(crate) fn value_of(eight: [u8; 8], length: usize) -> u64
     requires { ⌜ length ≤ 8 ⌝ }
     ensures { λ r. ⌜ r ≡ valueOf 256 (take length eight) ⌝ }
 {
@@ -82,7 +82,7 @@ fn fits(word: u64, length: usize) -> bool
 }
 
 // The word's bytes, the last one first, at a place with room for them.
-fn put_at(out: &mut [u8], place: usize, length: usize, word: u64)
+pub(crate) fn put_at(out: &mut [u8], place: usize, length: usize, word: u64)
     requires { ⌜ length ≤ count (now out) - place ⌝ }
     ensures { λ _. ⌜ now (out .exit) ≡ put (now (out .entry)) place (digits 256 length word) ⌝ }
 {

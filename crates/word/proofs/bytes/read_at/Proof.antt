@@ -5,10 +5,10 @@ use mathlib.Core.List.{List}
 use native.Mathlib.Omega.{arith}
 use borrow.Author.Needs.{needs}
 use borrow.Author.Tests.{lt-ltb, le-ltb}
-use lib.ListN.{length as count, take, drop, replicate, length-drop}
-use lib.Seq.{take-at, length-take-le}
+use lib.ListN.{length as count, take}
 use Rattle.word.specs.declared.bytes.Read.the-variants.{Word, Unfinished}
 use Rattle.word.specs.Digits.{valueOf}
+use Rattle.word.proofs.Filled.{eight-word}
 use Rattle.word.proofs.bytes.read_at.Statement.{statement}
 use Rattle.word.proofs.bytes.read_at.Tie as tie
 
@@ -41,9 +41,7 @@ returns-3 c =
     (ap Word
     (c .value-of .ensures
     ∙ ap (λ (eight : List ℕ). valueOf 256 (take (a .length) eight)) (c .before .eight-at .ensures)
-    ∙ ap (valueOf 256)
-    (take-at (take (a .length) (drop (a .place) (a .bytes .now))) (replicate (8 - a .length) 0) (a .length)
-    (length-take-le (a .length) (drop (a .place) (a .bytes .now)) (rw length-drop there)))))
+    ∙ eight-word (a .bytes .now) (a .place) (a .length) there))
 
 pub read-at-spec : {M : Type 1} → statement M
 read-at-spec =

@@ -1,0 +1,201 @@
+-- Laws of words one after the other: those that bytes hold, their bytes, and the loops that read and write them. Assumes nothing.
+use Prim.Native.Nat.{ℕ, zero, suc, _+_, _*_, _/_, _%_, _^_, _≤_, _<_}
+use mathlib.Core.Path.{_≡_, refl, _∙_, sym, ap, ap₂}
+use mathlib.Core.Bool.{Bool, true, false, _&&_, and-eq-true-iff}
+use mathlib.Core.List.{List, [], _∷_, _++_, append-nil, append-assoc}
+use native.Mathlib.Numerals.{add-one}
+use native.Mathlib.Omega.{arith}
+use native.Mathlib.Nat.{zero-add, zero-mul, mul-zero, suc-mul, mul-le-mul-right, div-add-mod', mul-div-cancel, mul-mod-left, le-of-eq}
+use borrow.Author.Tests.{eqb-true, eqb-false, eq-eqb, lt-ltb, le-ltb}
+use lib.Dec.{eqb}
+use lib.ListN.{length, take, drop, getD, set, length-append, length-drop, drop-of-length-le}
+use lib.Seq.{take-at, drop-at, take-all, take-suc, take-add, drop-drop, length-take-le}
+use Rattle.verdict.specs.declared.Reason.the-variants.{ValueLength, Disagree}
+use Rattle.verdict.specs.declared.Verdict.the-variants.{Complete}
+use Rattle.verdict.specs.Writing.{put, refusing, decided, WrittenBy}
+use Rattle.verdict.proofs.Cases.{either}
+use Rattle.verdict.proofs.Deciding.{decided-kept}
+use Rattle.verdict.proofs.Putting.{put-none, put-first, put-more, put-put, length-put}
+use Rattle.word.specs.Digits.{digits, valueOf}
+use Rattle.word.specs.Bytes.{wordAt}
+use Rattle.word.specs.Many.{wordsIn, bytesFor, manyRows}
+use Rattle.word.proofs.Digits.{Below, below-drop, length-digits, value-digits, digits-take}
+
+pub length-words : (n words : ℕ) (bytes : List ℕ) → length (wordsIn n words bytes) ≡ words
+unfolding wordsIn
+length-words n zero bytes = refl
+length-words n (suc words) bytes = ap suc (length-words n words (drop n bytes))
+
+-- a word past the first is the word at its place
+word-past : (n i : ℕ) (bytes : List ℕ) → wordAt (drop n bytes) (i * n) n ≡ wordAt bytes (suc i * n) n
+word-past n i bytes =
+    let e : n + i * n ≡ suc i * n = omega (arith, suc-mul i n) in
+    rw (drop-drop, e)
+
+pub getD-words : (n words : ℕ) (bytes : List ℕ) (i : ℕ) → i < words → getD (wordsIn n words bytes) i 0 ≡ wordAt bytes (i * n) n
+unfolding wordsIn
+getD-words n zero bytes i h = absurd (omega arith)
+getD-words n (suc words) bytes zero h = rw zero-mul
+getD-words n (suc words) bytes (suc i) h = getD-words n words (drop n bytes) i (omega arith) ∙ word-past n i bytes
+
+-- one word more
+pub words-more : (n words : ℕ) (bytes : List ℕ) → wordsIn n (suc words) bytes ≡ wordsIn n words bytes ++ (wordAt bytes (words * n) n ∷ [])
+unfolding wordsIn
+words-more n zero bytes = rw zero-mul
+words-more n (suc words) bytes =
+    ap (λ (ws : List ℕ). valueOf 256 (take n bytes) ∷ ws)
+    (words-more n words (drop n bytes) ∙ ap (λ (w : ℕ). wordsIn n words (drop n bytes) ++ (w ∷ [])) (word-past n words bytes))
+
+pub length-bytes : (n : ℕ) (words : List ℕ) → length (bytesFor n words) ≡ length words * n
+unfolding bytesFor
+length-bytes n [] = sym (zero-mul n)
+length-bytes n (word ∷ words) = rw (length-append, length-digits) (omega (arith, length-bytes n words, suc-mul (length words) n))
+
+pub bytes-append : (n : ℕ) (words more : List ℕ) → bytesFor n (words ++ more) ≡ bytesFor n words ++ bytesFor n more
+unfolding bytesFor
+bytes-append n [] more = refl
+bytes-append n (word ∷ words) more = rw (bytes-append n words more) (sym (append-assoc (digits 256 n word) (bytesFor n words) (bytesFor n more)))
+
+-- one word more
+pub bytes-more : (n : ℕ) (words : List ℕ) (i : ℕ) → i < length words → bytesFor n (take (suc i) words) ≡ bytesFor n (take i words) ++ digits 256 n (getD words i 0)
+unfolding bytesFor
+bytes-more n words i h =
+    ap (bytesFor n) (take-suc words i 0 h)
+    ∙ bytes-append n (take i words) (getD words i 0 ∷ [])
+    ∙ ap (λ (bs : List ℕ). bytesFor n (take i words) ++ bs) (append-nil (digits 256 n (getD words i 0)))
+
+-- the bytes of words that fit, whatever stands behind them, hold these words
+pub words-back : (n : ℕ) (words more : List ℕ) → Below (256 ^ n) words → wordsIn n (length words) (bytesFor n words ++ more) ≡ words
+unfolding wordsIn bytesFor
+words-back n [] more f = refl
+words-back n (word ∷ words) more f =
+    let l : length (digits 256 n word) ≡ n = length-digits 256 n word in
+    let rest : List ℕ = bytesFor n words ++ more in
+    rw (append-assoc (digits 256 n word) (bytesFor n words) more, take-at (digits 256 n word) rest n l, drop-at (digits 256 n word) rest n l)
+    (ap₂ (λ (w : ℕ) (ws : List ℕ). w ∷ ws) (value-digits 256 n word (omega arith) (f 0)) (words-back n words more (λ i. f (suc i))))
+
+-- the words that bytes hold have these bytes
+pub bytes-back : (n words : ℕ) (bytes : List ℕ) → Below 256 bytes → words * n ≤ length bytes → bytesFor n (wordsIn n words bytes) ≡ take (words * n) bytes
+unfolding wordsIn bytesFor
+bytes-back n zero bytes f h = rw zero-mul
+bytes-back n (suc words) bytes f h =
+    let e : suc words * n ≡ n + words * n = omega (arith, suc-mul words n) in
+    let room : words * n ≤ length (drop n bytes) = rw length-drop (omega arith) in
+    rw e
+    (ap₂ (λ (xs ys : List ℕ). xs ++ ys) (digits-take 256 n bytes f (omega arith)) (bytes-back n words (drop n bytes) (below-drop n bytes f) room)
+    ∙ sym (take-add n (words * n) bytes))
+
+-- ---- so many bytes are those of so many words
+
+pub holds-nothing : (bytes words n : ℕ) → n ≡ 0 → eqb bytes 0 ≡ eqb bytes (words * n)
+holds-nothing bytes words n e = rw (e, mul-zero)
+
+pub holds-divided : (bytes words n : ℕ) → 0 < n → eqb (bytes / n) words && eqb (bytes % n) 0 ≡ eqb bytes (words * n)
+holds-divided bytes words n h = by (eqb bytes (words * n)) refl
+  where
+    by : (t : Bool) → eqb bytes (words * n) ≡ t → eqb (bytes / n) words && eqb (bytes % n) 0 ≡ t
+    by true e = let x = eqb-true bytes (words * n) e in rw (x, mul-div-cancel words h, mul-mod-left, eq-eqb words words refl)
+    by false e =
+        either (eqb (bytes / n) words && eqb (bytes % n) 0)
+        (λ t.
+        let both = and-eq-true-iff (eqb (bytes / n) words) (eqb (bytes % n) 0) .0 t in
+        let q = eqb-true (bytes / n) words (both .0) in
+        let r = eqb-true (bytes % n) 0 (both .1) in
+        absurd (eqb-false bytes (words * n) e (sym (div-add-mod' bytes n) ∙ rw (q, r) (omega arith))))
+        (λ f. f)
+
+-- ---- the loops
+
+put-whole : (out list : List ℕ) → length list ≡ length out → put out 0 list ≡ list
+put-whole out list e = put-first out list ∙ rw (drop-of-length-le out (le-of-eq (sym e))) (append-nil list)
+
+-- the first i words of the bytes are read, and the place is that of the next
+pub record Gathered (out₀ bytes : List ℕ) (n place i : ℕ) (out : List ℕ) : Type 0 where
+  pub within : i ≤ length out₀
+  pub here : place ≡ i * n
+  pub is : out ≡ put out₀ 0 (wordsIn n i bytes)
+
+module _ (out₀ bytes : List ℕ) (n : ℕ) where
+  pub gathered-none : Gathered out₀ bytes n 0 0 out₀
+  unfolding wordsIn
+  gathered-none = record { within = omega arith; here = sym (zero-mul n); is = sym (put-none out₀ 0) }
+
+  pub gathered-length : (place i : ℕ) (out : List ℕ) → Gathered out₀ bytes n place i out → length out ≡ length out₀
+  gathered-length place i out g = ap length (g .is) ∙ length-put out₀ 0 (wordsIn n i bytes) (omega (arith, length-words n i bytes, g .within))
+
+  pub gathered-room : (place i : ℕ) (out : List ℕ) → length bytes ≡ length out₀ * n → i < length out → Gathered out₀ bytes n place i out → place + n ≤ length bytes
+  gathered-room place i out whole h g =
+      let inside : suc i ≤ length out₀ = omega (arith, gathered-length place i out g) in
+      omega (arith, g .here, suc-mul i n, mul-le-mul-right n inside)
+
+  pub gathered-more : (place i : ℕ) (out : List ℕ) → i < length out → Gathered out₀ bytes n place i out
+      → Gathered out₀ bytes n (place + n) (i + 1) (set out i (wordAt bytes place n))
+  gathered-more place i out h g =
+      let l : length (wordsIn n i bytes) ≡ i = length-words n i bytes in
+      let inside : i < length out₀ = omega (arith, gathered-length place i out g) in
+      record {
+        within = omega arith;
+        here = rw add-one (omega (arith, g .here, suc-mul i n));
+        is =
+            rw (g .is, g .here, add-one, words-more n i bytes)
+            (rw (zero-add, l) at (put-more out₀ 0 (wordsIn n i bytes) (wordAt bytes (i * n) n) (omega arith)));
+      }
+
+  pub gathered-all : (place i : ℕ) (out : List ℕ) → length out ≤ i → Gathered out₀ bytes n place i out → out ≡ wordsIn n (length out₀) bytes
+  gathered-all place i out h g =
+      let e : i ≡ length out₀ = omega (arith, g .within, gathered-length place i out g) in
+      g .is ∙ rw e (put-whole out₀ (wordsIn n (length out₀) bytes) (length-words n (length out₀) bytes))
+
+-- the bytes of the first i words are put, and the place is that of the next
+pub record Laid (out₀ words : List ℕ) (n place i : ℕ) (out : List ℕ) : Type 0 where
+  pub within : i ≤ length words
+  pub here : place ≡ i * n
+  pub is : out ≡ put out₀ 0 (bytesFor n (take i words))
+
+module _ (out₀ words : List ℕ) (n : ℕ) where
+  pub laid-none : Laid out₀ words n 0 0 out₀
+  unfolding bytesFor
+  laid-none = record { within = omega arith; here = sym (zero-mul n); is = sym (put-none out₀ 0) }
+
+  laid-bytes : (i : ℕ) → i ≤ length words → length (bytesFor n (take i words)) ≡ i * n
+  laid-bytes i h = length-bytes n (take i words) ∙ rw (length-take-le i words h)
+
+  module _ (whole : length out₀ ≡ length words * n) where
+    pub laid-length : (place i : ℕ) (out : List ℕ) → Laid out₀ words n place i out → length out ≡ length out₀
+    laid-length place i out s =
+        ap length (s .is) ∙ length-put out₀ 0 (bytesFor n (take i words)) (omega (arith, laid-bytes i (s .within), mul-le-mul-right n (s .within)))
+
+    pub laid-room : (place i : ℕ) (out : List ℕ) → i < length words → Laid out₀ words n place i out → place + n ≤ length out
+    laid-room place i out h s = omega (arith, s .here, suc-mul i n, mul-le-mul-right {m = suc i} n h, laid-length place i out s)
+
+    pub laid-more : (place i : ℕ) (out : List ℕ) → i < length words → Laid out₀ words n place i out
+        → Laid out₀ words n (place + n) (i + 1) (put out place (digits 256 n (getD words i 0)))
+    laid-more place i out h s =
+        let l = laid-bytes i (s .within) in
+        record {
+          within = omega arith;
+          here = rw add-one (omega (arith, s .here, suc-mul i n));
+          is =
+              rw (s .is, s .here, add-one, bytes-more n words i h)
+              (rw (zero-add, l) at (put-put out₀ 0 (bytesFor n (take i words)) (digits 256 n (getD words i 0)) (omega (arith, mul-le-mul-right n (s .within)))));
+        }
+
+    pub laid-all : (place i : ℕ) (out : List ℕ) → length words ≤ i → Laid out₀ words n place i out → out ≡ bytesFor n words
+    laid-all place i out h s =
+        s .is ∙ rw (take-all i words h) (put-whole out₀ (bytesFor n words) (length-bytes n words ∙ sym whole))
+
+-- ---- what reading and writing many answers: a refusal leaves the list, and the count of its entries comes with all of them
+
+module _ (n words bytes : ℕ) (list out : List ℕ) where
+  pub long-refused : 8 < n → WrittenBy (manyRows n words bytes) list out 0 (refusing ValueLength) out
+  unfolding decided
+  long-refused h = let e = lt-ltb 8 n h in record { said = rw e; left = rw e }
+
+  pub disagree-refused : n ≤ 8 → eqb bytes (words * n) ≡ false → WrittenBy (manyRows n words bytes) list out 0 (refusing Disagree) out
+  unfolding decided
+  disagree-refused h k = let e = le-ltb 8 n h in record { said = rw (e, k); left = rw (e, k) }
+
+  pub whole-left : (out′ : List ℕ) → n ≤ 8 → eqb bytes (words * n) ≡ true → length list ≡ length out → out′ ≡ list → WrittenBy (manyRows n words bytes) list out 0 (Complete (length out′)) out′
+  whole-left out′ h k l p =
+      let e = decided-kept (manyRows n words bytes) (Complete (length list)) (le-ltb 8 n h, (rw k, tt)) in
+      record { said = rw e (ap (λ (bs : List ℕ). Complete (length bs)) p); left = rw e (p ∙ sym (put-whole out list l)) }

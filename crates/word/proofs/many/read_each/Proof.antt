@@ -1,0 +1,92 @@
+-- `many::read_each` meets its contract. The loop's invariant: the words so far are read, and the place is that of the next. Assumes nothing.
+use Prim.Native.Nat.{ℕ, _+_, _-_, _≤_}
+use mathlib.Core.Path.{_≡_, _∙_, ap}
+use mathlib.Core.List.{List}
+use native.Mathlib.Omega.{arith}
+use borrow.Author.Needs.{needs}
+use lib.ListN.{length as count, take}
+use Rattle.word.specs.Digits.{valueOf}
+use Rattle.word.specs.Bytes.{wordAt}
+use Rattle.word.proofs.Filled.{eight-word}
+use Rattle.word.proofs.Words.{Gathered, gathered-none, gathered-length, gathered-room, gathered-more, gathered-all}
+use Rattle.word.proofs.many.read_each.Statement.{statement}
+use Rattle.word.proofs.many.read_each.Tie as tie
+
+abbrev Inv-loop : tie.InvT-loop
+Inv-loop bytes length out₀ place₀ i₀ out place i = Gathered out₀ bytes length place i out
+
+abbrev μ-loop : tie.MeasureT-loop
+μ-loop bytes length out₀ place₀ i₀ out place i = count out₀ - i
+
+loop-holds : tie.Need-loop-holds Inv-loop μ-loop
+loop-holds c = let a = c .before .before .args in gathered-none (a .out .now) (a .bytes .now) (a .length)
+
+kept : (c : tie.At-loop Inv-loop μ-loop) → count (c .loop .out) ≡ count (c .before .before .before .args .out .now)
+kept c =
+    let a = c .before .before .before .args in
+    let l = c .loop in
+    gathered-length (a .out .now) (a .bytes .now) (a .length) (l .place) (l .i) (l .out) (l .inv)
+
+room : (c : tie.In-loop Inv-loop μ-loop) → c .before .loop .place + c .before .before .before .before .args .length ≤ count (c .before .before .before .before .args .bytes .now)
+room c =
+    let s = c .before .before .before .before in
+    let l = c .before .loop in
+    gathered-room (s .args .out .now) (s .args .bytes .now) (s .args .length) (l .place) (l .i) (l .out) (s .pre .1) (c .loop-test .taken) (l .inv)
+
+eight-at-requires : tie.Need-eight-at-requires Inv-loop μ-loop
+eight-at-requires c κs = omega (arith, c .before .before .before .before .pre .0, room c)
+
+value-of-requires : tie.Need-value-of-requires Inv-loop μ-loop
+value-of-requires c κs = search needs
+
+mul-out : tie.Need-mul-out Inv-loop μ-loop
+mul-out c = search needs
+
+slice-write-out : tie.Need-slice-write-out Inv-loop μ-loop
+slice-write-out c = search needs
+
+add-place : tie.Need-add-place Inv-loop μ-loop
+add-place c = record { fits = omega (arith, room (c .before .before)) }
+
+add-i : tie.Need-add-i Inv-loop μ-loop
+add-i c = search needs
+
+loop-less : tie.Need-loop-less Inv-loop μ-loop
+loop-less c = omega (arith, kept (c .before .before .before))
+
+loop-again : tie.Need-loop-again Inv-loop μ-loop
+loop-again c =
+    let a = c .before .before .before .before .before .before .args in
+    let l = c .before .before .before .loop in
+    let word : c .value-of .result ≡ wordAt (a .bytes .now) (l .place) (a .length) =
+    c .value-of .ensures
+    ∙ ap (λ (eight : List ℕ). valueOf 256 (take (a .length) eight)) (c .before .eight-at .ensures)
+    ∙ eight-word (a .bytes .now) (l .place) (a .length) (omega (arith, room (c .before .before))) in
+    rw word (gathered-more (a .out .now) (a .bytes .now) (a .length) (l .place) (l .i) (l .out) (c .before .before .loop-test .taken) (l .inv))
+
+same-length : tie.Need-same-length Inv-loop μ-loop
+same-length c = kept (c .before)
+
+returns : tie.Need-returns Inv-loop μ-loop
+returns c =
+    let a = c .before .before .before .before .args in
+    let l = c .before .loop in
+    gathered-all (a .out .now) (a .bytes .now) (a .length) (l .place) (l .i) (l .out) (c .loop-test .left) (l .inv)
+
+pub read-each-spec : {M : Type 1} → statement M
+read-each-spec =
+    tie.close
+    (tie.spec
+    Inv-loop
+    μ-loop
+    loop-holds
+    eight-at-requires
+    value-of-requires
+    mul-out
+    slice-write-out
+    add-place
+    add-i
+    loop-less
+    loop-again
+    same-length
+    returns)

@@ -1,0 +1,113 @@
+// Many words of one length, one after the other: read from bytes, and written over them, with one check for all.
+ghost use mathlib.Core.Path.{_≡_};
+ghost use Prim.Native.Nat.{_*_, _≤_};
+ghost use lib.ListN.{length as count};
+ghost use lib.Dec.{eqb};
+ghost use Rattle.word.specs.Many.{wordsIn, bytesFor, ReadInto, WrittenOver};
+use crate::bytes::eight_at;
+use crate::bytes::put_at;
+use crate::bytes::value_of;
+use verdict::Reason;
+use verdict::Refusal;
+use verdict::Verdict;
+
+// Whether so many bytes are those of so many words.
+fn holds(bytes: usize, words: usize, length: usize) -> bool
+    ensures { λ r. ⌜ r ≡ eqb bytes (words * length) ⌝ }
+{
+    if length == 0 {
+        return bytes == 0;
+    }
+    (bytes / length == words) & (bytes % length == 0)
+}
+
+fn read_each(bytes: &[u8], length: usize, out: &mut [u64])
+    requires { ⌜ (length ≤ 8) × (count (now bytes) ≡ count (now out) * length) ⌝ }
+    ensures { λ _. ⌜ now (out .exit) ≡ wordsIn length (count (now (out .entry))) (now (bytes .entry)) ⌝ }
+{
+    let mut place = 0;
+    let mut i = 0;
+    while i < out.len() {
+        out[i] = value_of(eight_at(bytes, place, length), length);
+        place += length;
+        i += 1;
+    }
+}
+
+// Each of the usual lengths is a loop of its own to the compiler.
+fn read_by_length(bytes: &[u8], length: usize, out: &mut [u64])
+    requires { ⌜ (length ≤ 8) × (count (now bytes) ≡ count (now out) * length) ⌝ }
+    ensures { λ _. ⌜ now (out .exit) ≡ wordsIn length (count (now (out .entry))) (now (bytes .entry)) ⌝ }
+{
+    match length {
+        2 => read_each(bytes, 2, out),
+        4 => read_each(bytes, 4, out),
+        8 => read_each(bytes, 8, out),
+        _ => read_each(bytes, length, out),
+    }
+}
+
+// As many words of `length` bytes as `out` has entries, from all of `bytes`: their count, or a refusal that leaves `out` as it was.
+pub fn read_all(bytes: &[u8], length: usize, out: &mut [u64]) -> Verdict
+    ensures { λ r. ⌜ ReadInto (now (bytes .entry)) length (now (out .entry)) r (now (out .exit)) ⌝ }
+{
+    if 8 < length {
+        return Verdict::Refused(Refusal {
+            reason: Reason::ValueLength,
+            place: 0,
+        });
+    }
+    if !holds(bytes.len(), out.len(), length) {
+        return Verdict::Refused(Refusal {
+            reason: Reason::Disagree,
+            place: 0,
+        });
+    }
+    read_by_length(bytes, length, out);
+    Verdict::Complete(out.len())
+}
+
+fn write_each(out: &mut [u8], length: usize, words: &[u64])
+    requires { ⌜ (length ≤ 8) × (count (now out) ≡ count (now words) * length) ⌝ }
+    ensures { λ _. ⌜ now (out .exit) ≡ bytesFor length (now (words .entry)) ⌝ }
+{
+    let mut place = 0;
+    let mut i = 0;
+    while i < words.len() {
+        put_at(out, place, length, words[i]);
+        place += length;
+        i += 1;
+    }
+}
+
+fn write_by_length(out: &mut [u8], length: usize, words: &[u64])
+    requires { ⌜ (length ≤ 8) × (count (now out) ≡ count (now words) * length) ⌝ }
+    ensures { λ _. ⌜ now (out .exit) ≡ bytesFor length (now (words .entry)) ⌝ }
+{
+    match length {
+        2 => write_each(out, 2, words),
+        4 => write_each(out, 4, words),
+        8 => write_each(out, 8, words),
+        _ => write_each(out, length, words),
+    }
+}
+
+// Words in `length` bytes each, over all of `out`: the count of bytes, or a refusal that leaves `out` as it was. Of a word too long the last bytes are written.
+pub fn write_all(out: &mut [u8], length: usize, words: &[u64]) -> Verdict
+    ensures { λ r. ⌜ WrittenOver (now (out .entry)) length (now (words .entry)) r (now (out .exit)) ⌝ }
+{
+    if 8 < length {
+        return Verdict::Refused(Refusal {
+            reason: Reason::ValueLength,
+            place: 0,
+        });
+    }
+    if !holds(out.len(), words.len(), length) {
+        return Verdict::Refused(Refusal {
+            reason: Reason::Disagree,
+            place: 0,
+        });
+    }
+    write_by_length(out, length, words);
+    Verdict::Complete(out.len())
+}
