@@ -3,7 +3,7 @@ use Prim.Native.Nat.{ℕ, zero, suc, _+_, _-_, _*_, _/_, _%_, _^_, _≤_, _<_, m
 use mathlib.Core.Path.{_≡_, refl, sym, ap, _∙_, subst}
 use mathlib.Core.List.{List, _∷_}
 use mathlib.Core.Logic.{⊎-elim}
-use native.Mathlib.Nat.{add-sub-cancel, suc-mul, zero-mul, mul-zero, mod-eq-of-lt}
+use native.Mathlib.Nat.{add-sub-cancel, suc-mul, zero-mul, mul-zero, mod-eq-of-lt, zero-div}
 use native.Mathlib.Omega.{arith}
 use borrow.Author.Tests.{lt-ltb, le-ltb, eq-eqb, ne-eqb, leb-true, leb-false, ltb-true, ltb-false}
 use lib.Bits.{bitAnd, and-mask}
@@ -90,6 +90,10 @@ module _ (rule : Rule) (sound : Sound rule) (some : 1 ≤ rule .length) where
       (λ z. rw (z .0, ne-eqb (rule .sign) 0 (λ n. omega (arith, z .1, ap (λ (k : ℕ). k * p) (z .0))), and-mask x 7)
       (by-test (λ (n : ℕ). n ≡ x % 128) (leb 128 x) (x - 128) x (λ t. omega (arith, leb-true 128 x t)) (λ t. omega (arith, leb-false 128 x t))))
       (first-sign rule (rule .length - 1) sound (omega arith)))
+
+  -- where there is none, all of the first byte counts
+  pub unsigned : rule .sign ≡ 0 → (b : ℕ) → cleared (signFirst rule) b ≡ b
+  unsigned plain b = rw (plain, zero-div (256 ^ (rule .length - 1))) (cleared-none 1 b)
 
 -- ---- where a word has come to
 

@@ -94,6 +94,10 @@ pub record Checks (bytes : List ℕ) (place until : ℕ) (rule : Rule) (broken :
   pub cut : broken ≡ until → (count : ℕ) (runs : List Run) → until < place + count * rule .length → until ≡ length bytes
       → verdictBehind (enter (runOf rule count ∷ runs)) bytes place ≡ Unfinished (place + count * rule .length - until + runBytes runs)
 
+-- up to `until` no word of an unsigned rule breaks it whose greatest word has a higher first byte than this
+abbrev pub SettledBelow : List ℕ → ℕ → ℕ → ℕ → ℕ → Type 0
+SettledBelow bytes place until n most = (rule : Rule) → Sound rule → rule .sign ≡ 0 → rule .length ≡ n → most < rule .greatest / 256 ^ (rule .length - 1) → Checks bytes place until rule until
+
 -- past some words, with so many bytes of words behind them
 pub record PassedTo (bytes : List ℕ) (place count : ℕ) (rule : Rule) (after next : ℕ) : Type 0 where
   pub same : next ≡ place + count * rule .length

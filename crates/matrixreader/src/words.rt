@@ -1,9 +1,10 @@
 // The words of a matrix pack against their rule: a word's first byte mostly settles it, and no byte is looked at that cannot change the answer.
 ghost use mathlib.Core.Path.{_≡_};
+ghost use mathlib.Core.Bool.{true};
 ghost use Prim.Native.Nat.{_+_, _-_, _*_, _/_, _%_, _^_, _≤_, _<_};
 ghost use lib.ListN.{length as count, getD};
 ghost use Rattle.rule.specs.Rules.{Sound, cleared};
-ghost use Rattle.matrixreader.specs.Walk.{maskOf, LookedAt, Judges, Checks, PassedFrom};
+ghost use Rattle.matrixreader.specs.Walk.{maskOf, LookedAt, Judges, Checks, SettledBelow, PassedFrom};
 use crate::control::lesser;
 use crate::header::byte;
 use rule::rules::Rule;
@@ -69,8 +70,8 @@ fn judge_word(bytes: &[u8], at: usize, until: usize, rule: Rule, mask: usize, fi
     tight_word(bytes, at, until, rule)
 }
 
-// The byte of the words from a place on that breaks their rule, or `until` where none before that does.
-fn check(bytes: &[u8], place: usize, until: usize, rule: Rule) -> usize
+// The byte of the words from a place on that breaks their rule, or `until` where none before that does, word by word.
+fn check_each(bytes: &[u8], place: usize, until: usize, rule: Rule) -> usize
     requires { ⌜ Sound rule × (1 ≤ rule .length) × (place ≤ until) × (until ≤ count (now bytes)) ⌝ }
     ensures { λ r. ⌜ Checks (now (bytes .entry)) place until rule r ⌝ }
 {
@@ -85,6 +86,63 @@ fn check(bytes: &[u8], place: usize, until: usize, rule: Rule) -> usize
         at += rule.length;
     }
     until
+}
+
+fn greater(a: u8, b: u8) -> u8
+    ensures { λ r. ⌜ (a ≤ r) × (b ≤ r) ⌝ }
+{
+    if a < b { b } else { a }
+}
+
+// The greatest first byte of the words up to a place.
+fn greatest_first(bytes: &[u8], place: usize, until: usize, length: usize) -> u8
+    requires { ⌜ (1 ≤ length) × ((length ≤ 8) × ((place ≤ until) × (until ≤ count (now bytes)))) ⌝ }
+    ensures { λ r. ⌜ SettledBelow (now (bytes .entry)) place until length r ⌝ }
+{
+    let mut most: u8 = 0;
+    let mut at = place;
+    while at < until {
+        most = greater(most, bytes[at]);
+        at += length;
+    }
+    most
+}
+
+// Each of the usual lengths is a loop of its own to the compiler.
+fn greatest_by_length(bytes: &[u8], place: usize, until: usize, length: usize) -> u8
+    requires { ⌜ (1 ≤ length) × ((length ≤ 8) × ((place ≤ until) × (until ≤ count (now bytes)))) ⌝ }
+    ensures { λ r. ⌜ SettledBelow (now (bytes .entry)) place until length r ⌝ }
+{
+    match length {
+        1 => greatest_first(bytes, place, until, 1),
+        2 => greatest_first(bytes, place, until, 2),
+        4 => greatest_first(bytes, place, until, 4),
+        8 => greatest_first(bytes, place, until, 8),
+        _ => greatest_first(bytes, place, until, length),
+    }
+}
+
+// Whether the first bytes alone settle that no word up to a place breaks its rule.
+fn settled(bytes: &[u8], place: usize, until: usize, rule: Rule) -> bool
+    requires { ⌜ Sound rule × (1 ≤ rule .length) × (place ≤ until) × (until ≤ count (now bytes)) ⌝ }
+    ensures { λ r. ⌜ (r ≡ true → Checks (now (bytes .entry)) place until rule until) ⌝ }
+{
+    if rule.sign != 0 {
+        return false;
+    }
+    let most = greatest_by_length(bytes, place, until, rule.length) as usize;
+    most < limit_at(rule.greatest, rule.length - 1)
+}
+
+// The byte of the words from a place on that breaks their rule, or `until` where none before that does.
+fn check(bytes: &[u8], place: usize, until: usize, rule: Rule) -> usize
+    requires { ⌜ Sound rule × (1 ≤ rule .length) × (place ≤ until) × (until ≤ count (now bytes)) ⌝ }
+    ensures { λ r. ⌜ Checks (now (bytes .entry)) place until rule r ⌝ }
+{
+    if settled(bytes, place, until, rule) {
+        return until;
+    }
+    check_each(bytes, place, until, rule)
 }
 
 // Past so many words of a rule, behind which `after` bytes of other words are to come.
