@@ -1,0 +1,3 @@
+pub mod SixNumbers
+pub mod Listed
+pub mod Only

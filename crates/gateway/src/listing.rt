@@ -1,0 +1,117 @@
+// What reading answers, as numbers in a lent list.
+ghost use mathlib.Core.Path.{_≡_};
+ghost use mathlib.Core.Bool.{cond};
+ghost use Prim.Native.Nat.{_≤_};
+ghost use lib.ListN.{length};
+ghost use Rattle.verdict.specs.declared.Reason.the-variants.{SmallBuffer};
+ghost use Rattle.verdict.specs.declared.Verdict.the-variants.{Refused};
+ghost use Rattle.unpack.specs.Unpacking.{over};
+ghost use Rattle.gateway.specs.Listing.{fieldsOf, numbersOf, FieldsBy, NumbersBy};
+use arrayreader::Sizes;
+use matrix::Fields;
+use verdict::Reason;
+use verdict::Refusal;
+use verdict::Verdict;
+
+fn too_small() -> Verdict
+    ensures { λ r. ⌜ r ≡ Refused (record { reason = SmallBuffer; place = 0 }) ⌝ }
+{
+    Verdict::Refused(Refusal {
+        reason: Reason::SmallBuffer,
+        place: 0,
+    })
+}
+
+// Yes as 1, no as 0.
+fn bit_of(flag: bool) -> usize
+    ensures { λ r. ⌜ r ≡ cond flag 1 0 ⌝ }
+{
+    if flag { 1 } else { 0 }
+}
+
+fn fields_of(f: Fields) -> [usize; 6]
+    ensures { λ r. ⌜ r ≡ fieldsOf f ⌝ }
+{
+    [
+        f.n,
+        bit_of(f.cs),
+        bit_of(f.cf),
+        f.clen,
+        bit_of(f.sf),
+        f.slen,
+    ]
+}
+
+fn numbers_of(dims: usize, sizes: Sizes, element: usize, start: usize) -> [usize; 11]
+    ensures { λ r. ⌜ r ≡ numbersOf dims sizes element start ⌝ }
+{
+    [
+        dims,
+        sizes.one,
+        sizes.two,
+        sizes.three,
+        sizes.four,
+        sizes.five,
+        sizes.six,
+        sizes.seven,
+        sizes.eight,
+        element,
+        start,
+    ]
+}
+
+// Numbers over the first entries of a list with room for them.
+fn put_all(out: &mut [usize], numbers: &[usize])
+    requires { ⌜ length (now numbers) ≤ length (now out) ⌝ }
+    ensures { λ _. ⌜ now (out .exit) ≡ over (now (numbers .entry)) (now (out .entry)) ⌝ }
+{
+    let mut i = 0;
+    while i < numbers.len() {
+        out[i] = numbers[i];
+        i += 1;
+    }
+}
+
+// N, Cs, Cf, Clen, Sf and Slen of a matrix pack.
+pub(crate) fn list_fields(bytes: &[u8], out: &mut [usize]) -> Verdict
+    ensures { λ r. ⌜ FieldsBy (now (bytes .entry)) (now (out .entry)) r (now (out .exit)) ⌝ }
+{
+    let answer = matrixreader::read(bytes);
+    match answer {
+        matrixreader::Answer::Matrix { fields, length } => {
+            if out.len() < 6 {
+                return too_small();
+            }
+            let numbers = fields_of(fields);
+            put_all(out, &numbers);
+            Verdict::Complete(length)
+        }
+        matrixreader::Answer::Unfinished(missing) => Verdict::Unfinished(missing),
+        matrixreader::Answer::Refused(refusal) => Verdict::Refused(refusal),
+    }
+}
+
+// NDim, eight sizes, E and the start of an array pack.
+pub(crate) fn list_numbers(bytes: &[u8], out: &mut [usize]) -> Verdict
+    ensures { λ r. ⌜ NumbersBy (now (bytes .entry)) (now (out .entry)) r (now (out .exit)) ⌝ }
+{
+    let answer = arrayreader::read(bytes);
+    match answer {
+        arrayreader::Answer::Array {
+            dims,
+            sizes,
+            element,
+            start,
+            length,
+        } => {
+            if out.len() < 11 {
+                return too_small();
+            }
+            let numbers = numbers_of(dims, sizes, element, start);
+            put_all(out, &numbers);
+            Verdict::Complete(length)
+        }
+        arrayreader::Answer::Unfinished(missing) => Verdict::Unfinished(missing),
+        arrayreader::Answer::Refused(refusal) => Verdict::Refused(refusal),
+    }
+}

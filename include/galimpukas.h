@@ -1,0 +1,93 @@
+/* Galimpukas for C and C++: KLV matrix packs (MISB ST 1010.3, Mode 2) and array packs (MISB ST 1303), read, unpacked and written by proved code.
+ *
+ * Every call takes any memory of the stated counts and answers one number; a lent list changes only where the answer is complete. A pointer may be
+ * anything where its count is 0. Lists that a call fills must not overlap each other nor what it reads. */
+#ifndef GALIMPUKAS_H
+#define GALIMPUKAS_H
+
+#include <stddef.h>
+#include <stdint.h>
+
+#ifdef __cplusplus
+extern "C" {
+#endif
+
+/* Why bytes or arguments are refused. */
+enum galimpukas_reason {
+    GALIMPUKAS_ZERO = 1,           /* a number that must be 1 or more is 0 */
+    GALIMPUKAS_TOO_LARGE = 2,      /* a limit cannot be kept */
+    GALIMPUKAS_PADDED_NUMBER = 3,  /* the first octet of a number is 0x80 */
+    GALIMPUKAS_MODE = 4,           /* bit 7 of control byte 1 is 0, or of control byte 2 is 1 */
+    GALIMPUKAS_RESERVED = 5,       /* a reserved control bit is 1 */
+    GALIMPUKAS_VALUE_LENGTH = 6,   /* Clen or Slen is not allowed for its format */
+    GALIMPUKAS_SPARSE = 7,         /* Cs is 1 and Clen is 0 */
+    GALIMPUKAS_SIZE_ONE = 8,       /* N is 1 and Clen is not 0 */
+    GALIMPUKAS_EMPTY = 9,          /* neither kind of value */
+    GALIMPUKAS_VECTOR_END = 10,    /* an unused bit of the bit vector is 1 */
+    GALIMPUKAS_VALUE_RANGE = 11,   /* a word breaks its rule */
+    GALIMPUKAS_PROCESSING = 12,    /* element processing other than 1 */
+    GALIMPUKAS_SMALL_BUFFER = 13,  /* a lent output is too short */
+    GALIMPUKAS_DISAGREE = 14,      /* what a writer is given does not fit together */
+    GALIMPUKAS_INDEX = 15          /* no such element */
+};
+
+/* 1 if the answer is complete: its value is a length, a count of bytes written, or an offset. */
+#define GALIMPUKAS_IS_COMPLETE(answer) ((answer) >> 32 == 0)
+/* 1 if the pack is unfinished: its value is the fewest bytes with which any pack could finish it. */
+#define GALIMPUKAS_IS_UNFINISHED(answer) ((answer) >> 32 == 1)
+/* 1 if the answer is a refusal. */
+#define GALIMPUKAS_IS_REFUSED(answer) ((answer) >> 32 == 2)
+/* The length, count or offset of a complete answer; the missing bytes of an unfinished one. */
+#define GALIMPUKAS_VALUE(answer) ((uint32_t)(answer))
+/* The reason of a refusal, one of enum galimpukas_reason. */
+#define GALIMPUKAS_REASON(answer) ((unsigned)((answer) >> 16 & 0xFFFF))
+/* The place of a refusal: the first byte that makes it certain, from 0; 0 for reasons 13 to 15 and for writers. */
+#define GALIMPUKAS_PLACE(answer) ((unsigned)((answer) & 0xFFFF))
+
+/* M, how many pairs of N variables there are. */
+#define GALIMPUKAS_PAIRS(n) ((size_t)(n) * ((size_t)(n) - 1) / 2)
+/* The longest matrix pack, and the longest array pack. */
+#define GALIMPUKAS_LONGEST_MATRIX 16895
+#define GALIMPUKAS_LONGEST_ARRAY 32781
+
+/* Places in the six fields of a matrix. */
+enum { GALIMPUKAS_N, GALIMPUKAS_CS, GALIMPUKAS_CF, GALIMPUKAS_CLEN, GALIMPUKAS_SF, GALIMPUKAS_SLEN, GALIMPUKAS_MATRIX_FIELDS };
+/* Places in the eleven fields of an array: NDim, eight sizes (0 past the last), the element size, the place of the array's first byte. */
+enum { GALIMPUKAS_NDIM, GALIMPUKAS_SIZES, GALIMPUKAS_ELEMENT = 9, GALIMPUKAS_START, GALIMPUKAS_ARRAY_FIELDS };
+
+/* The verdict on a string of bytes as a matrix pack. */
+uint64_t matrix_verdict(const uint8_t *bytes, size_t count);
+
+/* N, Cs, Cf, Clen, Sf and Slen into six entries: the verdict, or 13 for fewer entries. */
+uint64_t matrix_fields(const uint8_t *bytes, size_t count, size_t *fields, size_t fields_count);
+
+/* N deviation words, M coefficient words and M marks (1 sent, 0 not sent): the verdict, or 13. */
+uint64_t matrix_unpack(const uint8_t *bytes, size_t count, uint64_t *deviations, size_t deviations_count,
+                       uint64_t *coefficients, size_t coefficients_count, uint8_t *marks, size_t marks_count);
+
+/* N times N words and marks by rows, deviations on the diagonal: the verdict, or 13. */
+uint64_t matrix_expand(const uint8_t *bytes, size_t count, uint64_t *words, size_t words_count, uint8_t *marks, size_t marks_count);
+
+/* A matrix pack from six fields, N deviations, M coefficients and M marks: the count of bytes written, or a refusal. */
+uint64_t matrix_write(const size_t *fields, size_t fields_count, const uint64_t *deviations, size_t deviations_count,
+                      const uint64_t *coefficients, size_t coefficients_count, const uint8_t *marks, size_t marks_count,
+                      uint8_t *out, size_t out_count);
+
+/* The verdict on a string of bytes as an array pack. */
+uint64_t array_verdict(const uint8_t *bytes, size_t count);
+
+/* NDim, eight sizes, E and the start into eleven entries: the verdict, or 13 for fewer entries. */
+uint64_t array_fields(const uint8_t *bytes, size_t count, size_t *fields, size_t fields_count);
+
+/* The offset of the element at these indices from the start of the array, the verdict, or 15. */
+uint64_t array_address(const uint8_t *bytes, size_t count, const size_t *indices, size_t indices_count);
+
+/* An array pack from its sizes, its element size and its array: the count of bytes written, or a refusal. */
+uint64_t array_write(const size_t *sizes, size_t sizes_count, size_t element, const uint8_t *array, size_t array_count,
+                     uint8_t *out, size_t out_count);
+
+#ifdef __cplusplus
+}
+#endif
+
+#endif
