@@ -1,0 +1,33 @@
+/* A plugin of QEMU's user-mode emulator that counts the instructions a program executes, and says the count on standard error as it ends. */
+#include <inttypes.h>
+#include <stddef.h>
+#include <stdio.h>
+
+/* what is used of the emulator's interface for plugins, version 1 */
+typedef uint64_t qemu_plugin_id_t;
+struct qemu_plugin_tb;
+enum qemu_plugin_op { QEMU_PLUGIN_INLINE_ADD_U64 };
+void qemu_plugin_register_vcpu_tb_trans_cb(qemu_plugin_id_t, void (*)(qemu_plugin_id_t, struct qemu_plugin_tb *));
+size_t qemu_plugin_tb_n_insns(const struct qemu_plugin_tb *);
+void qemu_plugin_register_vcpu_tb_exec_inline(struct qemu_plugin_tb *, enum qemu_plugin_op, void *, uint64_t);
+void qemu_plugin_register_atexit_cb(qemu_plugin_id_t, void (*)(qemu_plugin_id_t, void *), void *);
+
+int qemu_plugin_version = 1;
+static uint64_t count;
+
+static void block(qemu_plugin_id_t id, struct qemu_plugin_tb *tb) {
+    (void)id;
+    qemu_plugin_register_vcpu_tb_exec_inline(tb, QEMU_PLUGIN_INLINE_ADD_U64, &count, qemu_plugin_tb_n_insns(tb));
+}
+
+static void end(qemu_plugin_id_t id, void *data) {
+    (void)id, (void)data;
+    fprintf(stderr, "instructions %" PRIu64 "\n", count);
+}
+
+int qemu_plugin_install(qemu_plugin_id_t id, const void *info, int argc, char **argv) {
+    (void)info, (void)argc, (void)argv;
+    qemu_plugin_register_vcpu_tb_trans_cb(id, block);
+    qemu_plugin_register_atexit_cb(id, end, 0);
+    return 0;
+}
