@@ -4,15 +4,13 @@ use mathlib.Core.Path.{_≡_, refl, sym, ap, ap₂, _∙_}
 use mathlib.Core.Bool.{Bool, true, false, _&&_, cond, false≢true, and-eq-true-iff}
 use mathlib.Core.List.{List, [], _∷_, _++_}
 use native.Mathlib.Omega.{arith}
-use borrow.Author.Tests.{eq-eqb, eqb-true, le-ltb}
+use borrow.Author.Tests.{eq-eqb, eqb-true}
 use lib.Dec.{eqb}
 use lib.ListN.{length, take, drop, length-drop}
 use lib.Seq.{take-add, take-at, drop-at, length-take-le}
 use Rattle.verdict.proofs.Cases.{either}
-use Rattle.word.specs.declared.bytes.Read.{Read}
-use Rattle.word.specs.declared.bytes.Read.the-variants.{Word, Unfinished, Refused}
 use Rattle.word.specs.Digits.{digits, valueOf}
-use Rattle.word.specs.Bytes.{wordAt, readOf}
+use Rattle.word.specs.Bytes.{wordAt}
 use Rattle.word.proofs.Digits.{Below, below-take, below-drop, length-digits, digits-value, value-digits, word-below}
 use Rattle.frame.specs.declared.Kind.{Kind}
 use Rattle.frame.specs.declared.Kind.the-variants.{Matrix, Array, Unknown}
@@ -59,16 +57,6 @@ same-keys a b first last ha hb hf hl =
       eq-eqb a first (sym (key-first a b ha) ∙ ap (λ (key : List ℕ). valueOf 256 (take 8 key)) k ∙ key-first first last hf),
       eq-eqb b last (sym (key-last a b hb) ∙ ap (λ (key : List ℕ). valueOf 256 (drop 8 key)) k ∙ key-last first last hl),
     )
-
--- the word of what was read
-abbrev pub wordOr0 : Read → ℕ
-wordOr0 (Word word) = word
-wordOr0 (Unfinished missing) = 0
-wordOr0 (Refused refusal) = 0
-
--- eight bytes that are there are read
-pub read-eight : (bytes : List ℕ) (place : ℕ) → place + 8 ≤ length bytes → wordOr0 (readOf bytes place 8) ≡ wordAt bytes place 8
-read-eight bytes place h = rw (le-ltb (length bytes - place) 8 (omega arith))
 
 -- the kind by the words of the key
 abbrev pub kindBy : ℕ → ℕ → Kind

@@ -3,13 +3,13 @@ use Prim.Native.Nat.{ℕ, zero, suc, _+_, _-_, _*_, _/_, _%_, _^_, _≤_, _<_, m
 use mathlib.Core.Path.{_≡_, refl, sym, ap, _∙_, subst}
 use mathlib.Core.List.{List, _∷_}
 use mathlib.Core.Logic.{⊎-elim}
-use native.Mathlib.Nat.{add-sub-cancel, suc-mul, zero-mul, mul-zero, mod-eq-of-lt, zero-div}
+use native.Mathlib.Nat.{add-sub-cancel, suc-mul, zero-mul, mul-zero, mod-eq-of-lt, zero-div, pow-suc, one-le-pow, div-lt-iff-lt-mul}
 use native.Mathlib.Omega.{arith}
 use borrow.Author.Tests.{lt-ltb, le-ltb, eq-eqb, ne-eqb, leb-true, leb-false, ltb-true, ltb-false}
 use lib.Bits.{bitAnd, and-mask}
-use lib.Dec.{leb, ltb}
+use lib.Dec.{eqb, leb, ltb}
 use lib.ListN.{length, getD}
-use lib.Pow.{high, low, field, mod-mod-pow, ones-split, ones-lt}
+use lib.Pow.{high, low, field, mod-mod-pow, ones-split, ones-lt, shr-shr}
 use Rattle.verdict.specs.Rows.{judged}
 use Rattle.verdict.specs.declared.Verdict.the-variants.{Unfinished}
 use Rattle.verdict.specs.declared.Verdict.{Verdict}
@@ -54,6 +54,9 @@ module _ (word more : ℕ) where
   rest-rest : word % 256 ^ suc more % 256 ^ more ≡ word % 256 ^ more
   rest-rest = rw (bytes-more more, bytes-bits more) (mod-mod-pow word 8 (8 * more))
 
+  next-byte : word / 256 ^ suc more ≡ word / 256 ^ more / 256
+  next-byte = rw (bytes-more more, bytes-bits more) (ap (λ (k : ℕ). word / 2 ^ k) (omega arith) ∙ sym (shr-shr word (8 * more) 8))
+
 -- a limit that lets everything pass lets every byte pass, and everything behind it
 free-byte : (more : ℕ) → (256 ^ suc more - 1) / 256 ^ more ≡ 255
 free-byte more = rw (bytes-more more, bytes-bits more, ones-split 8 (8 * more)) (high 255 (8 * more) (ones-lt (8 * more)))
@@ -94,6 +97,39 @@ module _ (rule : Rule) (sound : Sound rule) (some : 1 ≤ rule .length) where
   -- where there is none, all of the first byte counts
   pub unsigned : rule .sign ≡ 0 → (b : ℕ) → cleared (signFirst rule) b ≡ b
   unsigned plain b = rw (plain, zero-div (256 ^ (rule .length - 1))) (cleared-none 1 b)
+
+-- a word of two bytes or more: its first two
+module _ (rule : Rule) (sound : Sound rule) (two : 2 ≤ rule .length) where
+  abbrev rest : ℕ
+  rest = 256 ^ (rule .length - 2)
+
+  whole : 256 ^ rule .length ≡ 65536 * rest
+  whole = let n : rule .length ≡ suc (suc (rule .length - 2)) = omega arith in
+      ap (λ (k : ℕ). 256 ^ k) n ∙ pow-suc 256 (suc (rule .length - 2)) ∙ omega (arith, pow-suc 256 (rule .length - 2))
+
+  pub two-room : rule .greatest < 65536 * rest
+  two-room = omega (arith, sound .room, whole)
+
+  pub two-limit : rule .greatest / rest < 65536
+  two-limit = div-lt-iff-lt-mul (one-le-pow (rule .length - 2) 256 (omega arith)) .1 two-room
+
+  pub sign-room : rule .sign - 1 < 65536 * rest
+  sign-room = let p = one-le-pow (rule .length - 2) 256 (omega arith) in ⊎-elim (λ z. omega arith) (λ h. omega (arith, h .0, whole)) (sound .signed)
+
+  -- what stands below a sign is the mask
+  pub below-sign : 1 ≤ rule .sign → (rule .sign - 1) / rest ≡ maskOf rule * 256 + 255
+  below-sign some =
+      let k = 8 * (rule .length - 2) in
+      let p : rest ≡ 2 ^ k = bytes-bits (rule .length - 2) in
+      let h : rule .sign * 2 ≡ 65536 * rest = ⊎-elim (λ z. absurd (omega arith)) (λ h. h .0 ∙ whole) (sound .signed) in
+      let e : rule .sign - 1 ≡ 32767 * 2 ^ k + (2 ^ k - 1) = omega arith in
+      rw (p, e, ne-eqb (rule .sign) 0 (λ z. omega arith)) (high 32767 k (ones-lt k))
+
+-- two bytes are masked each by itself
+and-two : (rule : Rule) (b c : ℕ) → c < 256 → bitAnd (b * 256 + c) (maskOf rule * 256 + 255) ≡ bitAnd b (maskOf rule) * 256 + c
+and-two rule b c h =
+    by-test (λ (m : ℕ). bitAnd (b * 256 + c) (m * 256 + 255) ≡ bitAnd b m * 256 + c) (eqb (rule .sign) 0) 255 127
+    (λ t. rw (and-mask (b * 256 + c) 16, and-mask b 8) (omega arith)) (λ t. rw (and-mask (b * 256 + c) 15, and-mask b 7) (omega arith))
 
 -- ---- where a word has come to
 
@@ -204,6 +240,26 @@ module _ (bytes : List ℕ) (place until : ℕ) (rule : Rule) (fast : LookedAt b
     tight-equal g h =
         let n : place + rule .length - (at + 1) ≡ more = omega arith in
         rw (n, ← rest-rest (rule .greatest) more) (rw (le-ltb (getD bytes at 0) (top / 256 ^ more) (omega (arith, top-byte))) at (next h))
+
+  -- by the first two bytes
+  module _ (two : 2 ≤ rule .length) (next : place + 1 < until) (below : Below 256 bytes) where
+    abbrev b₀ : ℕ
+    b₀ = getD bytes place 0
+
+    abbrev b₁ : ℕ
+    b₁ = getD bytes (place + 1) 0
+
+    pub two-below : (x : ℕ) → x ≡ bitAnd (b₀ * 256 + b₁) (maskOf rule * 256 + 255) → x < rule .greatest / 256 ^ (rule .length - 2) → Judges bytes place until rule until
+    two-below x e h =
+        let g = rule .greatest / 256 ^ (rule .length - 2) in
+        let x₀ = bitAnd b₀ (maskOf rule) in
+        let counts : cleared (signFirst rule) b₀ ≡ x₀ = masked rule (fast .sound) (fast .some) b₀ b₀ (maskOf rule) refl (below place) refl in
+        let first : limitFirst rule ≡ g / 256 = let n : rule .length - 1 ≡ suc (rule .length - 2) = omega arith in rw n (next-byte (rule .greatest) (rule .length - 2)) in
+        let both : x ≡ x₀ * 256 + b₁ = e ∙ and-two rule b₀ b₁ (below (place + 1)) in
+        either (ltb x₀ (limitFirst rule)) (λ t. first-below x₀ counts below (ltb-true x₀ (limitFirst rule) t))
+        (λ t. let q : x₀ ≡ limitFirst rule = omega (arith, ltb-false x₀ (limitFirst rule) t) in
+        let n : place + rule .length - 1 - (place + 1) ≡ rule .length - 2 = omega arith in
+        tight-below (place + 1) (g % 256) b₁ (omega arith) (tight-start (counts ∙ q)) (rw n refl) refl below (omega arith))
 
 -- ---- words one after another
 

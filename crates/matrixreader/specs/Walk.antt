@@ -98,6 +98,11 @@ pub record Checks (bytes : List ℕ) (place until : ℕ) (rule : Rule) (broken :
 abbrev pub SettledBelow : List ℕ → ℕ → ℕ → ℕ → ℕ → Type 0
 SettledBelow bytes place until n most = (rule : Rule) → Sound rule → rule .sign ≡ 0 → rule .length ≡ n → most < rule .greatest / 256 ^ (rule .length - 1) → Checks bytes place until rule until
 
+-- and none of any rule whose greatest word begins higher than this with two bytes, of which so much counts
+abbrev pub SettledByTwo : List ℕ → ℕ → ℕ → ℕ → ℕ → ℕ → Type 0
+SettledByTwo bytes place until n mask most =
+    (rule : Rule) → Sound rule → rule .length ≡ n → mask ≡ maskOf rule * 256 + 255 → most < rule .greatest / 256 ^ (rule .length - 2) → Checks bytes place until rule until
+
 -- past some words, with so many bytes of words behind them
 pub record PassedTo (bytes : List ℕ) (place count : ℕ) (rule : Rule) (after next : ℕ) : Type 0 where
   pub same : next ≡ place + count * rule .length

@@ -14,6 +14,8 @@ use crate::judge::judge_vector;
 use matrix::Fields;
 use verdict::Judged;
 use verdict::Refusal;
+use word::bytes::Read;
+use word::bytes::read_at;
 
 // How many coefficients are sent, or why that is not known.
 pub(crate) enum Sent {
@@ -22,8 +24,21 @@ pub(crate) enum Sent {
     Refused(Refusal),
 }
 
-// How many bits of so many bytes at a place are 1.
-fn ones(bytes: &[u8], place: usize, count: usize) -> usize
+// How many bits of eight bytes at a place are 1.
+fn ones_of_eight(bytes: &[u8], place: usize) -> usize
+    requires { ⌜ place + 8 ≤ length (now bytes) ⌝ }
+    ensures { λ r. ⌜ r ≡ sum (bits (take 8 (drop place (now (bytes .entry))))) ⌝ }
+{
+    let read = read_at(bytes, place, 8);
+    match read {
+        Read::Word(word) => u64::count_ones(word) as usize,
+        Read::Unfinished(_) => 0,
+        Read::Refused(_) => 0,
+    }
+}
+
+// How many bits of so many bytes at a place are 1, byte by byte.
+fn ones_of_each(bytes: &[u8], place: usize, count: usize) -> usize
     requires { ⌜ (place + count ≤ length (now bytes)) × (count ≤ 252) ⌝ }
     ensures { λ r. ⌜ r ≡ sum (bits (take count (drop place (now (bytes .entry))))) ⌝ }
 {
@@ -34,6 +49,20 @@ fn ones(bytes: &[u8], place: usize, count: usize) -> usize
         i += 1;
     }
     sum
+}
+
+// How many bits of so many bytes at a place are 1.
+fn ones(bytes: &[u8], place: usize, count: usize) -> usize
+    requires { ⌜ (place + count ≤ length (now bytes)) × (count ≤ 252) ⌝ }
+    ensures { λ r. ⌜ r ≡ sum (bits (take count (drop place (now (bytes .entry))))) ⌝ }
+{
+    let mut sum: usize = 0;
+    let mut i = 0;
+    while i + 8 <= count {
+        sum += ones_of_eight(bytes, place + i);
+        i += 8;
+    }
+    sum + ones_of_each(bytes, place + i, count - i)
 }
 
 // How many coefficients there are at least where so many ones were seen.

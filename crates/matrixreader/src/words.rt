@@ -2,9 +2,10 @@
 ghost use mathlib.Core.Path.{_≡_};
 ghost use mathlib.Core.Bool.{true};
 ghost use Prim.Native.Nat.{_+_, _-_, _*_, _/_, _%_, _^_, _≤_, _<_};
+ghost use lib.Bits.{bitAnd};
 ghost use lib.ListN.{length as count, getD};
 ghost use Rattle.rule.specs.Rules.{Sound, cleared};
-ghost use Rattle.matrixreader.specs.Walk.{maskOf, LookedAt, Judges, Checks, SettledBelow, PassedFrom};
+ghost use Rattle.matrixreader.specs.Walk.{maskOf, LookedAt, Judges, Checks, SettledBelow, SettledByTwo, PassedFrom};
 use crate::control::lesser;
 use crate::header::byte;
 use rule::rules::Rule;
@@ -122,16 +123,81 @@ fn greatest_by_length(bytes: &[u8], place: usize, until: usize, length: usize) -
     }
 }
 
-// Whether the first bytes alone settle that no word up to a place breaks its rule.
+fn greater_two(a: u16, b: u16) -> u16
+    ensures { λ r. ⌜ (a ≤ r) × (b ≤ r) ⌝ }
+{
+    if a < b { b } else { a }
+}
+
+// What counts of the first two bytes of a word.
+fn two_at(bytes: &[u8], at: usize, mask: u16) -> u16
+    requires { ⌜ at + 1 < count (now bytes) ⌝ }
+    ensures { λ r. ⌜ r ≡ bitAnd (getD (now (bytes .entry)) at 0 * 256 + getD (now (bytes .entry)) (at + 1) 0) mask ⌝ }
+{
+    (bytes[at] as u16 * 256 + bytes[at + 1] as u16) & mask
+}
+
+// The greatest beginning, of two bytes, of the words up to a place; 65,535 where a word has only its first byte before that.
+fn greatest_two(bytes: &[u8], place: usize, until: usize, length: usize, mask: u16) -> u16
+    requires { ⌜ (2 ≤ length) × ((length ≤ 8) × ((place ≤ until) × (until ≤ count (now bytes)))) ⌝ }
+    ensures { λ r. ⌜ SettledByTwo (now (bytes .entry)) place until length mask r ⌝ }
+{
+    let mut most: u16 = 0;
+    let mut at = place;
+    while at + 1 < until {
+        most = greater_two(most, two_at(bytes, at, mask));
+        at += length;
+    }
+    if at < until {
+        return 65535;
+    }
+    most
+}
+
+fn two_by_length(bytes: &[u8], place: usize, until: usize, length: usize, mask: u16) -> u16
+    requires { ⌜ (2 ≤ length) × ((length ≤ 8) × ((place ≤ until) × (until ≤ count (now bytes)))) ⌝ }
+    ensures { λ r. ⌜ SettledByTwo (now (bytes .entry)) place until length mask r ⌝ }
+{
+    match length {
+        2 => greatest_two(bytes, place, until, 2, mask),
+        4 => greatest_two(bytes, place, until, 4, mask),
+        8 => greatest_two(bytes, place, until, 8, mask),
+        _ => greatest_two(bytes, place, until, length, mask),
+    }
+}
+
+// The first two bytes of a word that has `more` bytes behind them.
+fn two_of(word: u64, more: usize) -> u16
+    requires { ⌜ (more ≤ 6) × (word < 65536 * 256 ^ more) ⌝ }
+    ensures { λ r. ⌜ r ≡ word / 256 ^ more ⌝ }
+{
+    ((word >> (8 * more)) % 65536) as u16
+}
+
+// Whether two bytes of each word settle that none up to a place breaks its rule, which has a sign.
+fn settled_by_two(bytes: &[u8], place: usize, until: usize, rule: Rule) -> bool
+    requires { ⌜ Sound rule × (2 ≤ rule .length) × (place ≤ until) × (until ≤ count (now bytes)) × (1 ≤ rule .sign) ⌝ }
+    ensures { λ r. ⌜ (r ≡ true → Checks (now (bytes .entry)) place until rule until) ⌝ }
+{
+    let more = rule.length - 2;
+    // what stands below the sign; the compiler would take a constant mask apart
+    let mask = two_of(rule.sign - 1, more);
+    two_by_length(bytes, place, until, rule.length, mask) < two_of(rule.greatest, more)
+}
+
+// Whether their first bytes alone settle that no word up to a place breaks its rule.
 fn settled(bytes: &[u8], place: usize, until: usize, rule: Rule) -> bool
     requires { ⌜ Sound rule × (1 ≤ rule .length) × (place ≤ until) × (until ≤ count (now bytes)) ⌝ }
     ensures { λ r. ⌜ (r ≡ true → Checks (now (bytes .entry)) place until rule until) ⌝ }
 {
-    if rule.sign != 0 {
+    if rule.sign == 0 {
+        let most = greatest_by_length(bytes, place, until, rule.length) as usize;
+        return most < limit_at(rule.greatest, rule.length - 1);
+    }
+    if rule.length == 1 {
         return false;
     }
-    let most = greatest_by_length(bytes, place, until, rule.length) as usize;
-    most < limit_at(rule.greatest, rule.length - 1)
+    settled_by_two(bytes, place, until, rule)
 }
 
 // The byte of the words from a place on that breaks their rule, or `until` where none before that does.

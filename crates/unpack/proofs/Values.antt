@@ -5,13 +5,10 @@ use mathlib.Core.Bool.{Bool, true, false, cond}
 use mathlib.Core.List.{List, [], _∷_}
 use native.Mathlib.Nat.{zero-mul}
 use native.Mathlib.Omega.{arith}
-use borrow.Author.Tests.{le-ltb}
 use lib.Dec.{eqb}
 use lib.ListN.{length, take, drop, getD, replicate, length-drop, length-replicate, getD-replicate}
 use lib.Seq.{getD-take, getD-drop, drop-drop, length-take-le}
-use Rattle.word.specs.declared.bytes.Read.{Read}
-use Rattle.word.specs.declared.bytes.Read.the-variants.{Word, Unfinished, Refused}
-use Rattle.word.specs.Bytes.{wordAt, readOf}
+use Rattle.word.specs.Bytes.{wordAt}
 use Rattle.matrix.specs.declared.Fields.{Fields}
 use Rattle.matrix.specs.Meaning.{pairs, sum, nought}
 use Rattle.matrix.specs.Spelling.{vectorBytes, bits, marksOf, read, meaningOf}
@@ -75,12 +72,3 @@ module _ (bytes : List ℕ) (f : Fields) (same : f ≡ meaningOf bytes .fields) 
       ap (λ (g : Fields). getD (marksOf g (take (vectorBytes g) (drop 3 bytes))) pair 0) (sym same) ∙ rw e (getD-replicate {A = ℕ} (pairs (f .n)) pair (min 1 (f .clen)) 0 h)
 
 -- ---- one word
-
--- the word in what was read
-abbrev pub wordIn : Read → ℕ
-wordIn (Word word) = word
-wordIn (Unfinished missing) = 0
-wordIn (Refused refusal) = 0
-
-pub read-whole : (bytes : List ℕ) (place n : ℕ) → n ≤ 8 → place + n ≤ length bytes → readOf bytes place n ≡ Word (wordAt bytes place n)
-read-whole bytes place n h l = simp (le-ltb 8 n h, le-ltb (length bytes - place) n (omega arith))

@@ -1,5 +1,6 @@
 pub mod Digits
 pub mod Filled
+pub mod Whole
 pub mod Words
 pub mod Written
 pub mod Only

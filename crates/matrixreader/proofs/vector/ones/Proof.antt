@@ -1,14 +1,15 @@
 -- `matrixreader::vector::ones` meets its contract. The loop's invariant: the sum is that of the ones of the bytes passed. Assumes nothing.
-use Prim.Native.Nat.{_+_, _-_, _≤_}
+use Prim.Native.Nat.{ℕ, _+_, _-_, _≤_}
 use mathlib.Core.Path.{_≡_, refl}
+use mathlib.Core.List.{List}
 use native.Mathlib.Omega.{arith}
-use borrow.Author.Needs.{needs}
 use denote.Ref.{now}
-use lib.Count.{ones}
-use lib.ListN.{take, drop, getD}
+use lib.ListN.{take, drop}
+use lib.Seq.{drop-drop}
 use Rattle.matrix.specs.Meaning.{sum as sumOf}
 use Rattle.matrix.specs.Spelling.{bits}
-use Rattle.matrix.proofs.Ones.{ones-most, ones-more}
+use Rattle.matrix.proofs.Ones.{ones-most, ones-both}
+use borrow.Author.Needs.{needs}
 use Rattle.matrixreader.proofs.vector.ones.Statement.{statement}
 use Rattle.matrixreader.proofs.vector.ones.Tie as tie
 
@@ -18,33 +19,29 @@ Inv-loop bytes place count sum₀ i₀ sum i = (i ≤ count) × (sum ≡ sumOf (
 abbrev μ-loop : tie.MeasureT-loop
 μ-loop bytes place count sum₀ i₀ sum i = count - i
 
--- the ones with those of the byte here
-more : (c : tie.After-shared-slice-known Inv-loop μ-loop) → let s = c .before .before .before .args in let l = c .before .before .loop in
-    l .sum + ones (getD (now (s .bytes)) (s .place + l .i) 0) ≡ sumOf (bits (take (l .i + 1) (drop (s .place) (now (s .bytes)))))
-more c =
-    let s = c .before .before .before .args in
-    let l = c .before .before .loop in
-    ones-more (now (s .bytes)) (s .place) (l .i) (l .sum) (c .shared-slice-known .given (s .place + l .i) .fits) (omega arith) (l .inv .1)
-
-few : (c : tie.After-shared-slice-known Inv-loop μ-loop) → let s = c .before .before .before .args in let l = c .before .before .loop in
-    l .sum + ones (getD (now (s .bytes)) (s .place + l .i) 0) ≤ 2016
-few c = let s = c .before .before .before .args in omega (arith, more c, ones-most (c .before .before .loop .i + 1) (drop (s .place) (now (s .bytes))))
+-- the ones of the first i bytes, with those of j more
+more : (bytes : List ℕ) (place i j sum r : ℕ) → sum ≡ sumOf (bits (take i (drop place bytes))) → r ≡ sumOf (bits (take j (drop (place + i) bytes))) → sum + r ≡ sumOf (bits (take (i + j) (drop place bytes)))
+more bytes place i j sum r e f = rw (e, f, ones-both i j (drop place bytes), drop-drop) refl
 
 loop-holds : tie.Need-loop-holds Inv-loop μ-loop
 unfolding sumOf bits
 loop-holds c = (omega arith, refl)
 
+add-loop : tie.Need-add-loop Inv-loop μ-loop
+add-loop c = search needs
+
+add-ones-of-eight : tie.Need-add-ones-of-eight Inv-loop μ-loop
+add-ones-of-eight c = search needs
+
+ones-of-eight-requires : tie.Need-ones-of-eight-requires Inv-loop μ-loop
+ones-of-eight-requires c κs = search needs
+
 add-sum : tie.Need-add-sum Inv-loop μ-loop
-add-sum c = search needs
-
-shared-slice-read-sum : tie.Need-shared-slice-read-sum Inv-loop μ-loop
-shared-slice-read-sum c = search needs
-
-cast-sum : tie.Need-cast-sum Inv-loop μ-loop
-cast-sum c = omega (arith, few c)
-
-add-sum-2 : tie.Need-add-sum-2 Inv-loop μ-loop
-add-sum-2 c = omega (arith, few c)
+add-sum c =
+    let l = c .before .before .loop in
+    let a = c .before .before .before .before .args in
+    let bytes = now (a .bytes) in
+    omega (arith, more bytes (a .place) (l .i) 8 (l .sum) (c .ones-of-eight .result) (l .inv .1) (c .ones-of-eight .ensures), ones-most (l .i + 8) (drop (a .place) bytes))
 
 add-i : tie.Need-add-i Inv-loop μ-loop
 add-i c = search needs
@@ -53,10 +50,35 @@ loop-less : tie.Need-loop-less Inv-loop μ-loop
 loop-less c = search needs
 
 loop-again : tie.Need-loop-again Inv-loop μ-loop
-loop-again c = (omega arith, more c)
+loop-again c =
+    let l = c .before .before .loop in
+    let a = c .before .before .before .before .args in
+    let bytes = now (a .bytes) in
+    (omega arith, more bytes (a .place) (l .i) 8 (l .sum) (c .ones-of-eight .result) (l .inv .1) (c .ones-of-eight .ensures))
+
+add-ones-of-each : tie.Need-add-ones-of-each Inv-loop μ-loop
+add-ones-of-each c = search needs
+
+sub-ones-of-each : tie.Need-sub-ones-of-each Inv-loop μ-loop
+sub-ones-of-each c = search needs
+
+ones-of-each-requires : tie.Need-ones-of-each-requires Inv-loop μ-loop
+ones-of-each-requires c κs = search needs
+
+add-result : tie.Need-add-result Inv-loop μ-loop
+add-result c =
+    let l = c .before .before .loop in
+    let a = c .before .before .before .before .args in
+    let bytes = now (a .bytes) in
+    omega (arith, l .inv .0, c .before .before .before .before .pre .1, more bytes (a .place) (l .i) (a .count - l .i) (l .sum) (c .ones-of-each .result) (l .inv .1) (c .ones-of-each .ensures), ones-most (l .i + (a .count - l .i)) (drop (a .place) bytes))
 
 returns : tie.Need-returns Inv-loop μ-loop
-returns c = let e : c .before .loop .i ≡ c .before .before .args .count = omega arith in rw e at (c .before .loop .inv .1)
+returns c =
+    let l = c .before .before .loop in
+    let a = c .before .before .before .before .args in
+    let bytes = now (a .bytes) in
+    let n : l .i + (a .count - l .i) ≡ a .count = omega (arith, l .inv .0) in
+    rw n at (more bytes (a .place) (l .i) (a .count - l .i) (l .sum) (c .ones-of-each .result) (l .inv .1) (c .ones-of-each .ensures))
 
 pub ones-spec : {M : Type 1} → statement M
 ones-spec =
@@ -65,11 +87,15 @@ ones-spec =
     Inv-loop
     μ-loop
     loop-holds
+    add-loop
+    add-ones-of-eight
+    ones-of-eight-requires
     add-sum
-    shared-slice-read-sum
-    cast-sum
-    add-sum-2
     add-i
     loop-less
     loop-again
+    add-ones-of-each
+    sub-ones-of-each
+    ones-of-each-requires
+    add-result
     returns)

@@ -1,4 +1,4 @@
--- `matrixreader::words::settled` meets its contract: of an unsigned rule, by the greatest first byte. Assumes nothing.
+-- `matrixreader::words::settled` meets its contract: without a sign by the greatest first byte, with one by two bytes. Assumes nothing.
 use Prim.Native.Nat.{ℕ, _<_}
 use mathlib.Core.Path.{_≡_, refl, _∙_}
 use native.Mathlib.Omega.{arith}
@@ -7,9 +7,6 @@ use Rattle.matrixreader.proofs.Passing.{limitFirst, first-limit}
 use borrow.Author.Needs.{needs}
 use Rattle.matrixreader.proofs.words.settled.Statement.{statement}
 use Rattle.matrixreader.proofs.words.settled.Tie as tie
-
-returns : tie.Need-returns
-returns c = λ e. let z : _≡_ {A = ℕ} 0 1 = cc in absurd (omega arith)
 
 greatest-by-length-requires : tie.Need-greatest-by-length-requires
 greatest-by-length-requires c κs = search needs
@@ -23,23 +20,34 @@ sub-limit-at c = search needs
 limit-at-requires : tie.Need-limit-at-requires
 limit-at-requires c κs = search needs
 
-returns-2 : tie.Need-returns-2
-returns-2 c =
+returns : tie.Need-returns
+returns c =
     λ e.
     let g = c .before .before in
     let s = g .before .before .before .before in
     let rule = s .args .rule in
     let limit : c .limit-at .result ≡ limitFirst rule = c .limit-at .ensures ∙ first-limit rule (s .pre .0) (s .pre .1) in
     let below : g .greatest-by-length .result < c .limit-at .result = ltb-true (g .greatest-by-length .result) (c .limit-at .result) e in
-    g .greatest-by-length .ensures rule (s .pre .0) (g .before .if1 .left) refl (omega (arith, limit))
+    g .greatest-by-length .ensures rule (s .pre .0) (g .before .if1 .taken) refl (omega (arith, limit))
+
+returns-2 : tie.Need-returns-2
+returns-2 c = λ e. let z : _≡_ {A = ℕ} 0 1 = cc in absurd (omega arith)
+
+settled-by-two-requires : tie.Need-settled-by-two-requires
+settled-by-two-requires c κs = search needs
+
+returns-3 : tie.Need-returns-3
+returns-3 c = search needs
 
 pub settled-spec : {M : Type 1} → statement M
 settled-spec =
     tie.close
     (tie.spec
-    returns
     greatest-by-length-requires
     cast-most
     sub-limit-at
     limit-at-requires
-    returns-2)
+    returns
+    returns-2
+    settled-by-two-requires
+    returns-3)

@@ -2,7 +2,7 @@
 use mathlib.Core.Path.{_≡_, _∙_, sym, ap}
 use denote.Ref.{now}
 use Rattle.word.specs.Bytes.{wordAt}
-use Rattle.unpack.proofs.Values.{wordIn, read-whole}
+use Rattle.word.proofs.Whole.{wordIn, read-whole}
 use borrow.Author.Needs.{needs}
 use Rattle.unpack.proofs.words.word_at.Statement.{statement}
 use Rattle.unpack.proofs.words.word_at.Tie as tie
