@@ -1,20 +1,23 @@
 -- Laws of words one after the other: those that bytes hold, their bytes, and the loops that read and write them. Assumes nothing.
 use Prim.Native.Nat.{ℕ, zero, suc, _+_, _*_, _/_, _%_, _^_, _≤_, _<_}
 use mathlib.Core.Path.{_≡_, refl, _∙_, sym, ap, ap₂}
-use mathlib.Core.Bool.{Bool, true, false, _&&_, and-eq-true-iff}
+use mathlib.Core.Bool.{Bool, true, false, not, _&&_, and-eq-true-iff}
 use mathlib.Core.List.{List, [], _∷_, _++_, append-nil, append-assoc}
 use native.Mathlib.Numerals.{add-one}
 use native.Mathlib.Omega.{arith}
 use native.Mathlib.Nat.{zero-add, zero-mul, mul-zero, suc-mul, mul-le-mul-right, div-add-mod', mul-div-cancel, mul-mod-left, le-of-eq}
-use borrow.Author.Tests.{eqb-true, eqb-false, eq-eqb, lt-ltb, le-ltb}
+use borrow.Author.Tests.{eqb-true, eqb-false, eq-eqb, lt-ltb, le-ltb, ltb-false, not-false}
 use lib.Dec.{eqb}
 use lib.ListN.{length, take, drop, getD, set, length-append, length-drop, drop-of-length-le}
 use lib.Seq.{take-at, drop-at, take-all, take-suc, take-add, drop-drop, length-take-le}
+use Rattle.verdict.specs.declared.Judged.the-variants.{Kept, Broken}
+use Rattle.verdict.specs.declared.Reason.{Reason}
 use Rattle.verdict.specs.declared.Reason.the-variants.{ValueLength, Disagree}
+use Rattle.verdict.specs.Judgement.{judgement}
 use Rattle.verdict.specs.declared.Verdict.the-variants.{Complete}
-use Rattle.verdict.specs.Writing.{put, refusing, decided, WrittenBy}
+use Rattle.verdict.specs.Writing.{put, refusing, WrittenBy}
 use Rattle.verdict.proofs.Cases.{either}
-use Rattle.verdict.proofs.Deciding.{decided-kept}
+use Rattle.verdict.proofs.Deciding.{judgement-kept, judgement-blamed, decided-kept, written-off}
 use Rattle.verdict.proofs.Putting.{put-none, put-first, put-more, put-put, length-put}
 use Rattle.word.specs.Digits.{digits, valueOf}
 use Rattle.word.specs.Bytes.{wordAt}
@@ -186,16 +189,25 @@ module _ (out₀ words : List ℕ) (n : ℕ) where
 
 -- ---- what reading and writing many answers: a refusal leaves the list, and the count of its entries comes with all of them
 
-module _ (n words bytes : ℕ) (list out : List ℕ) where
-  pub long-refused : 8 < n → WrittenBy (manyRows n words bytes) list out 0 (refusing ValueLength) out
-  unfolding decided
-  long-refused h = let e = lt-ltb 8 n h in record { said = rw e; left = rw e }
+module _ (n words bytes : ℕ) where
+  pub judged-long : 8 < n → Broken ValueLength ≡ judgement (manyRows n words bytes)
+  judged-long h = rw (lt-ltb 8 n h)
 
-  pub disagree-refused : n ≤ 8 → eqb bytes (words * n) ≡ false → WrittenBy (manyRows n words bytes) list out 0 (refusing Disagree) out
-  unfolding decided
-  disagree-refused h k = let e = le-ltb 8 n h in record { said = rw (e, k); left = rw (e, k) }
+  module _ (short : n ≤ 8) (held : Bool) (is : held ≡ eqb bytes (words * n)) where
+    pub judged-apart : not held ≡ true → Broken Disagree ≡ judgement (manyRows n words bytes)
+    judged-apart e = rw (le-ltb 8 n short, ← is, e)
 
-  pub whole-left : (out′ : List ℕ) → n ≤ 8 → eqb bytes (words * n) ≡ true → length list ≡ length out → out′ ≡ list → WrittenBy (manyRows n words bytes) list out 0 (Complete (length out′)) out′
-  whole-left out′ h k l p =
-      let e = decided-kept (manyRows n words bytes) (Complete (length list)) (le-ltb 8 n h, (rw k, tt)) in
-      record { said = rw e (ap (λ (bs : List ℕ). Complete (length bs)) p); left = rw e (p ∙ sym (put-whole out list l)) }
+    pub judged-kept : not held ≡ false → Kept ≡ judgement (manyRows n words bytes)
+    judged-kept e = rw (le-ltb 8 n short, ← is, e)
+
+  pub kept-whole : Kept ≡ judgement (manyRows n words bytes) → (n ≤ 8) × (bytes ≡ words * n)
+  kept-whole e = let k = judgement-kept (manyRows n words bytes) (sym e) in (ltb-false 8 n (k .0), eqb-true bytes (words * n) (not-false _ (k .1 .0)))
+
+  module _ (list out : List ℕ) where
+    pub many-refused : (reason : Reason) → Broken reason ≡ judgement (manyRows n words bytes) → WrittenBy (manyRows n words bytes) list out 0 (refusing reason) out
+    many-refused reason e = written-off (manyRows n words bytes) [] list out 0 reason (judgement-blamed (manyRows n words bytes) reason (sym e))
+
+    pub whole-left : (out′ : List ℕ) → Kept ≡ judgement (manyRows n words bytes) → length list ≡ length out → out′ ≡ list → WrittenBy (manyRows n words bytes) list out 0 (Complete (length out′)) out′
+    whole-left out′ k l p =
+        let e = decided-kept (manyRows n words bytes) (Complete (length list)) (judgement-kept (manyRows n words bytes) (sym k)) in
+        record { said = rw e (ap (λ (bs : List ℕ). Complete (length bs)) p); left = rw e (p ∙ sym (put-whole out list l)) }

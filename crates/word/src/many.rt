@@ -3,10 +3,12 @@ ghost use mathlib.Core.Path.{_≡_};
 ghost use Prim.Native.Nat.{_*_, _≤_};
 ghost use lib.ListN.{length as count};
 ghost use lib.Dec.{eqb};
-ghost use Rattle.word.specs.Many.{wordsIn, bytesFor, ReadInto, WrittenOver};
+ghost use Rattle.verdict.specs.Judgement.{judgement};
+ghost use Rattle.word.specs.Many.{wordsIn, bytesFor, manyRows, ReadInto, WrittenOver};
 use crate::bytes::eight_at;
 use crate::bytes::put_at;
 use crate::bytes::value_of;
+use verdict::Judged;
 use verdict::Reason;
 use verdict::Refusal;
 use verdict::Verdict;
@@ -19,6 +21,19 @@ fn holds(bytes: usize, words: usize, length: usize) -> bool
         return bytes == 0;
     }
     (bytes / length == words) & (bytes % length == 0)
+}
+
+// 6 above eight bytes, 14 where the bytes are not as many as the words have.
+fn judge(bytes: usize, words: usize, length: usize) -> Judged
+    ensures { λ r. ⌜ r ≡ judgement (manyRows length words bytes) ⌝ }
+{
+    if 8 < length {
+        return Judged::Broken(Reason::ValueLength);
+    }
+    if !holds(bytes, words, length) {
+        return Judged::Broken(Reason::Disagree);
+    }
+    Judged::Kept
 }
 
 fn read_each(bytes: &[u8], length: usize, out: &mut [u64])
@@ -51,20 +66,14 @@ fn read_by_length(bytes: &[u8], length: usize, out: &mut [u64])
 pub fn read_all(bytes: &[u8], length: usize, out: &mut [u64]) -> Verdict
     ensures { λ r. ⌜ ReadInto (now (bytes .entry)) length (now (out .entry)) r (now (out .exit)) ⌝ }
 {
-    if 8 < length {
-        return Verdict::Refused(Refusal {
-            reason: Reason::ValueLength,
-            place: 0,
-        });
+    let judged = judge(bytes.len(), out.len(), length);
+    match judged {
+        Judged::Kept => {
+            read_by_length(bytes, length, out);
+            Verdict::Complete(out.len())
+        }
+        Judged::Broken(reason) => Verdict::Refused(Refusal { reason, place: 0 }),
     }
-    if !holds(bytes.len(), out.len(), length) {
-        return Verdict::Refused(Refusal {
-            reason: Reason::Disagree,
-            place: 0,
-        });
-    }
-    read_by_length(bytes, length, out);
-    Verdict::Complete(out.len())
 }
 
 fn write_each(out: &mut [u8], length: usize, words: &[u64])
@@ -96,18 +105,12 @@ fn write_by_length(out: &mut [u8], length: usize, words: &[u64])
 pub fn write_all(out: &mut [u8], length: usize, words: &[u64]) -> Verdict
     ensures { λ r. ⌜ WrittenOver (now (out .entry)) length (now (words .entry)) r (now (out .exit)) ⌝ }
 {
-    if 8 < length {
-        return Verdict::Refused(Refusal {
-            reason: Reason::ValueLength,
-            place: 0,
-        });
+    let judged = judge(out.len(), words.len(), length);
+    match judged {
+        Judged::Kept => {
+            write_by_length(out, length, words);
+            Verdict::Complete(out.len())
+        }
+        Judged::Broken(reason) => Verdict::Refused(Refusal { reason, place: 0 }),
     }
-    if !holds(out.len(), words.len(), length) {
-        return Verdict::Refused(Refusal {
-            reason: Reason::Disagree,
-            place: 0,
-        });
-    }
-    write_by_length(out, length, words);
-    Verdict::Complete(out.len())
 }

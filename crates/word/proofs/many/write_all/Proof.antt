@@ -1,53 +1,57 @@
--- `many::write_all` meets its contract: each answer is the one of its tests, and a refusal leaves the bytes. Assumes nothing.
-use Prim.Native.Nat.{_*_}
+-- `many::write_all` meets its contract: what is judged well is done, and a refusal leaves the bytes. Assumes nothing.
 use mathlib.Core.Path.{_≡_, _∙_, sym}
-use mathlib.Core.Bool.{true, false}
-use native.Mathlib.Omega.{arith}
-use borrow.Author.Needs.{needs}
-use borrow.Author.Tests.{eqb-true, not-true, not-false}
-use lib.Dec.{eqb}
 use lib.ListN.{length as count}
-use Rattle.word.specs.Many.{bytesFor}
-use Rattle.word.proofs.Words.{length-bytes, long-refused, disagree-refused, whole-left}
+use Rattle.verdict.specs.declared.Judged.the-variants.{Kept}
+use Rattle.verdict.specs.Judgement.{judgement}
+use Rattle.word.specs.Many.{bytesFor, manyRows}
+use Rattle.word.proofs.Words.{length-bytes, kept-whole, many-refused, whole-left}
+use borrow.Author.Needs.{needs}
 use Rattle.word.proofs.many.write_all.Statement.{statement}
 use Rattle.word.proofs.many.write_all.Tie as tie
 
-returns : tie.Need-returns
-returns c =
-    let a = c .before .before .before .args in
-    long-refused (a .length) (count (a .words .now)) (count (a .out .now)) (bytesFor (a .length) (a .words .now)) (a .out .now) (omega arith)
+judge-requires : tie.Need-judge-requires
+judge-requires c κs = search needs
 
-holds-requires : tie.Need-holds-requires
-holds-requires c κs = search needs
+enum-told : tie.Need-enum-told
+enum-told c = search needs
 
-returns-2 : tie.Need-returns-2
-returns-2 c =
-    let a = c .before .before .before .before .before .args in
-    let e : eqb (count (a .out .now)) (count (a .words .now) * a .length) ≡ false = sym (c .before .holds .ensures) ∙ not-true _ (c .if2 .taken) in
-    disagree-refused (a .length) (count (a .words .now)) (count (a .out .now)) (bytesFor (a .length) (a .words .now)) (a .out .now) (omega arith) e
+abbrev start : tie.After-judge → tie.Start
+start c = c .before .before .before
 
--- the bytes are those of the words
-agrees : (c : tie.Else2) → let a = c .before .before .before .before .before .args in eqb (count (a .out .now)) (count (a .words .now) * a .length) ≡ true
-agrees c = sym (c .before .holds .ensures) ∙ not-false _ (c .if2 .left)
+kept : (c : tie.After-enum-told) → let a = start (c .before .before) .args in Kept ≡ judgement (manyRows (a .length) (count (a .words .now)) (count (a .out .now)))
+kept c = sym (c .enum-told .given .1) ∙ c .before .before .judge .ensures
 
 write-by-length-requires : tie.Need-write-by-length-requires
-write-by-length-requires c κs =
-    let a = c .before .before .before .before .before .before .args in
-    (omega arith, eqb-true (count (a .out .now)) (count (a .words .now) * a .length) (agrees (c .before)))
+write-by-length-requires c κs = let a = start (c .before .before .before) .args in kept-whole (a .length) (count (a .words .now)) (count (a .out .now)) (kept (c .before))
+
+enum-known-judged : tie.Need-enum-known-judged
+enum-known-judged c = search needs
 
 same-length : tie.Need-same-length
 same-length c = search needs
 
-returns-3 : tie.Need-returns-3
-returns-3 c =
-    let a = c .before .before .before .before .before .before .before .before .before .args in
-    let bytes = bytesFor (a .length) (a .words .now) in
-    let e = agrees (c .before .before .before .before) in
-    let all : count bytes ≡ count (a .out .now) = length-bytes (a .length) (a .words .now) ∙ sym (eqb-true (count (a .out .now)) (count (a .words .now) * a .length) e) in
-    let done = c .before .before .write-by-length in
-    whole-left (a .length) (count (a .words .now)) (count (a .out .now)) bytes (a .out .now) (done .last .0) (omega arith) e all (done .ensures)
+returns : tie.Need-returns
+returns c =
+    let w = c .before .before in
+    let t = w .before .before in
+    let a = start (t .before .before) .args in
+    let k = kept t in
+    whole-left (a .length) (count (a .words .now)) (count (a .out .now)) (bytesFor (a .length) (a .words .now)) (a .out .now) (w .write-by-length .last .0) k (length-bytes (a .length) (a .words .now) ∙ sym (kept-whole (a .length) (count (a .words .now)) (count (a .out .now)) k .1)) (w .write-by-length .ensures)
+
+returns-2 : tie.Need-returns-2
+returns-2 c =
+    let d = c .before .before .before in
+    let a = start d .args in
+    many-refused (a .length) (count (a .words .now)) (count (a .out .now)) (bytesFor (a .length) (a .words .now)) (a .out .now) (c .before .judged .given .0 .0) (sym (c .before .judged .given .1) ∙ d .judge .ensures)
 
 pub write-all-spec : {M : Type 1} → statement M
 write-all-spec =
     tie.close
-    (tie.spec returns holds-requires returns-2 write-by-length-requires same-length returns-3)
+    (tie.spec
+    judge-requires
+    enum-told
+    write-by-length-requires
+    enum-known-judged
+    same-length
+    returns
+    returns-2)
