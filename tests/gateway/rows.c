@@ -1,6 +1,6 @@
 /* Runs rows of bytes through the calls that C has, and says what each gives, as the program rows does; and rows of the calls' own numbers:
  * "F HEX ROOM" the fields of a matrix pack, "G HEX ZEROS ROOM" those of an array pack of these bytes and so many of 0, "H N .." a matrix of one
- * value for each written from these numbers. The bytes that a call reads stand before memory that cannot be read; the lists that it fills are
+ * value for each written from these numbers, "N" every call with no memory at all. The bytes that a call reads stand before memory that cannot be read; the lists that it fills are
  * lent from the middle of longer ones, and "kept" says that every other entry is as it was. */
 #define _GNU_SOURCE
 #include <stdio.h>
@@ -204,6 +204,15 @@ static void numbers_row(const struct row *r) {
     say_written(r, matrix_write(r->given, r->givens, one, 64, half, 2016, sent, 2016, out + 1, 1000));
 }
 
+static void nothing_row(const struct row *r) {
+    uint64_t answers[] = {matrix_verdict(0, 0), matrix_fields(0, 0, 0, 0), matrix_unpack(0, 0, 0, 0, 0, 0, 0, 0), matrix_expand(0, 0, 0, 0, 0, 0),
+                          matrix_write(0, 0, 0, 0, 0, 0, 0, 0, 0, 0), array_verdict(0, 0), array_fields(0, 0, 0, 0), array_address(0, 0, 0, 0),
+                          array_write(0, 0, 0, 0, 0, 0, 0)};
+    printf("%s", r->text);
+    for (size_t i = 0; i < sizeof answers / sizeof *answers; i++) printf(", "), say(answers[i]);
+    printf("\n");
+}
+
 static void do_row(const struct row *r) {
     lend();
     switch (r->kind) {
@@ -211,6 +220,7 @@ static void do_row(const struct row *r) {
     case 'E': expand_row(r); break;
     case 'F': case 'G': fields_row(r); break;
     case 'H': numbers_row(r); break;
+    case 'N': nothing_row(r); break;
     case 'Q': case 'R': again_row(r); break;
     case 'U': unpack_row(r); break;
     case 'W': matrix_row(r); break;

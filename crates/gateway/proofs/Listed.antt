@@ -20,18 +20,23 @@ use Rattle.arrayreader.specs.Reading.{readFor as readArrayFor, readOf as readAr
 use Rattle.unpack.specs.Unpacking.{over}
 use Rattle.gateway.specs.Listing.{ListedBy}
 
-module _ (verdict : Verdict) (count : ℕ) (numbers out : List ℕ) where
-  pub listed-short : (n : ℕ) → verdict ≡ Complete n → length out < count → ListedBy verdict count numbers out (refusing SmallBuffer) out
-  listed-short n e h = let t = lt-ltb (length out) count h in record { said = rw (e, t) refl; left = rw (e, t) refl }
+module _ (numbers out : List ℕ) where
+  pub listed-short : (n : ℕ) → length out < length numbers → ListedBy (Complete n) numbers out (refusing SmallBuffer) out
+  listed-short n h = let t = lt-ltb (length out) (length numbers) h in record { said = rw t refl; left = rw t refl }
 
-  pub listed-whole : (n : ℕ) (out′ : List ℕ) → verdict ≡ Complete n → count ≤ length out → out′ ≡ over numbers out → ListedBy verdict count numbers out (Complete n) out′
-  listed-whole n out′ e h l = let t = le-ltb (length out) count h in record { said = rw (e, t) refl; left = rw (e, t) l }
+  pub listed-whole : (n : ℕ) (out′ : List ℕ) → length numbers ≤ length out → out′ ≡ over numbers out → ListedBy (Complete n) numbers out (Complete n) out′
+  listed-whole n out′ h l = let t = le-ltb (length out) (length numbers) h in record { said = rw t refl; left = rw t l }
 
-  pub listed-unfinished : (missing : ℕ) → verdict ≡ Unfinished missing → ListedBy verdict count numbers out (Unfinished missing) out
-  listed-unfinished missing e = record { said = rw e refl; left = rw e refl }
+  module _ (verdict : Verdict) where
+    -- what is listed of a complete pack is what its verdict and its numbers say
+    pub listed-as : (n : ℕ) (list : List ℕ) (answer : Verdict) (out′ : List ℕ) → verdict ≡ Complete n → list ≡ numbers → ListedBy (Complete n) list out answer out′ → ListedBy verdict numbers out answer out′
+    listed-as n list answer out′ e f l = rw (e, ← f) l
 
-  pub listed-refused : (refusal : Refusal) → verdict ≡ Refused refusal → ListedBy verdict count numbers out (Refused refusal) out
-  listed-refused refusal e = record { said = rw e refl; left = rw e refl }
+    pub listed-unfinished : (missing : ℕ) → verdict ≡ Unfinished missing → ListedBy verdict numbers out (Unfinished missing) out
+    listed-unfinished missing e = record { said = rw e refl; left = rw e refl }
+
+    pub listed-refused : (refusal : Refusal) → verdict ≡ Refused refusal → ListedBy verdict numbers out (Refused refusal) out
+    listed-refused refusal e = record { said = rw e refl; left = rw e refl }
 
 -- ---- the verdict of an answer
 

@@ -54,12 +54,14 @@ arrayNumbers (ArrayUnfinished missing) = []
 arrayNumbers (ArrayRefused refusal) = []
 
 -- by the verdict, and the numbers that a complete pack has: what is said, and what is left in the list
-pub record ListedBy (verdict : Verdict) (count : ℕ) (numbers out : List ℕ) (answer : Verdict) (out′ : List ℕ) : Type 0 where
-  pub said : answer ≡ saidFor verdict (ltb (length out) count)
-  pub left : out′ ≡ leftFor (saidFor verdict (ltb (length out) count)) numbers out
+pub record ListedBy (verdict : Verdict) (numbers out : List ℕ) (answer : Verdict) (out′ : List ℕ) : Type 0 where
+  pub said : answer ≡ saidFor verdict (ltb (length out) (length numbers))
+  pub left : out′ ≡ leftFor (saidFor verdict (ltb (length out) (length numbers))) numbers out
 
+-- six numbers of a matrix
 abbrev pub FieldsBy : List ℕ → List ℕ → Verdict → List ℕ → Type 0
-FieldsBy bytes = ListedBy (matrixVerdict bytes) 6 (matrixNumbers (readMatrix bytes))
+FieldsBy bytes = ListedBy (matrixVerdict bytes) (matrixNumbers (readMatrix bytes))
 
+-- eleven of an array
 abbrev pub NumbersBy : List ℕ → List ℕ → Verdict → List ℕ → Type 0
-NumbersBy bytes = ListedBy (arrayVerdict bytes) 11 (arrayNumbers (readArray bytes))
+NumbersBy bytes = ListedBy (arrayVerdict bytes) (arrayNumbers (readArray bytes))

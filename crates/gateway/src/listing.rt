@@ -3,24 +3,14 @@ ghost use mathlib.Core.Path.{_≡_};
 ghost use mathlib.Core.Bool.{cond};
 ghost use Prim.Native.Nat.{_≤_};
 ghost use lib.ListN.{length};
-ghost use Rattle.verdict.specs.declared.Reason.the-variants.{SmallBuffer};
-ghost use Rattle.verdict.specs.declared.Verdict.the-variants.{Refused};
+ghost use Rattle.verdict.specs.declared.Verdict.the-variants.{Complete};
 ghost use Rattle.unpack.specs.Unpacking.{over};
-ghost use Rattle.gateway.specs.Listing.{fieldsOf, numbersOf, FieldsBy, NumbersBy};
+ghost use Rattle.gateway.specs.Listing.{fieldsOf, numbersOf, ListedBy, FieldsBy, NumbersBy};
 use arrayreader::Sizes;
 use matrix::Fields;
 use verdict::Reason;
 use verdict::Refusal;
 use verdict::Verdict;
-
-fn too_small() -> Verdict
-    ensures { λ r. ⌜ r ≡ Refused (record { reason = SmallBuffer; place = 0 }) ⌝ }
-{
-    Verdict::Refused(Refusal {
-        reason: Reason::SmallBuffer,
-        place: 0,
-    })
-}
 
 // Yes as 1, no as 0.
 fn bit_of(flag: bool) -> usize
@@ -72,6 +62,20 @@ fn put_all(out: &mut [usize], numbers: &[usize])
     }
 }
 
+// The numbers of a pack of this length, where there is room for them.
+fn list(numbers: &[usize], length: usize, out: &mut [usize]) -> Verdict
+    ensures { λ r. ⌜ ListedBy (Complete length) (now (numbers .entry)) (now (out .entry)) r (now (out .exit)) ⌝ }
+{
+    if out.len() < numbers.len() {
+        return Verdict::Refused(Refusal {
+            reason: Reason::SmallBuffer,
+            place: 0,
+        });
+    }
+    put_all(out, numbers);
+    Verdict::Complete(length)
+}
+
 // N, Cs, Cf, Clen, Sf and Slen of a matrix pack.
 pub(crate) fn list_fields(bytes: &[u8], out: &mut [usize]) -> Verdict
     ensures { λ r. ⌜ FieldsBy (now (bytes .entry)) (now (out .entry)) r (now (out .exit)) ⌝ }
@@ -79,12 +83,8 @@ pub(crate) fn list_fields(bytes: &[u8], out: &mut [usize]) -> Verdict
     let answer = matrixreader::read(bytes);
     match answer {
         matrixreader::Answer::Matrix { fields, length } => {
-            if out.len() < 6 {
-                return too_small();
-            }
             let numbers = fields_of(fields);
-            put_all(out, &numbers);
-            Verdict::Complete(length)
+            list(&numbers, length, out)
         }
         matrixreader::Answer::Unfinished(missing) => Verdict::Unfinished(missing),
         matrixreader::Answer::Refused(refusal) => Verdict::Refused(refusal),
@@ -104,12 +104,8 @@ pub(crate) fn list_numbers(bytes: &[u8], out: &mut [usize]) -> Verdict
             start,
             length,
         } => {
-            if out.len() < 11 {
-                return too_small();
-            }
             let numbers = numbers_of(dims, sizes, element, start);
-            put_all(out, &numbers);
-            Verdict::Complete(length)
+            list(&numbers, length, out)
         }
         arrayreader::Answer::Unfinished(missing) => Verdict::Unfinished(missing),
         arrayreader::Answer::Refused(refusal) => Verdict::Refused(refusal),

@@ -1,14 +1,10 @@
--- `gateway::listing::list_numbers` meets its contract: the numbers of a complete pack where there is room, else the verdict or 13. Assumes nothing.
+-- `gateway::listing::list_numbers` meets its contract: the numbers of a complete pack are listed, and any other verdict is passed on. Assumes nothing.
 use mathlib.Core.Path.{sym, ap, _∙_}
-use native.Mathlib.Omega.{arith}
 use denote.Ref.{now}
-use Prim.Native.Nat.{ℕ}
-use mathlib.Core.List.{List}
-use Rattle.unpack.specs.Unpacking.{over}
 use Rattle.array.specs.Machine.{verdictOf}
 use Rattle.arrayreader.specs.Reading.{readOf}
 use Rattle.gateway.specs.Listing.{arrayNumbers}
-use Rattle.gateway.proofs.Listed.{listed-short, listed-whole, listed-unfinished, listed-refused, array-said}
+use Rattle.gateway.proofs.Listed.{listed-as, listed-unfinished, listed-refused, array-said}
 use borrow.Author.Needs.{needs}
 use Rattle.gateway.proofs.listing.list_numbers.Statement.{statement}
 use Rattle.gateway.proofs.listing.list_numbers.Tie as tie
@@ -19,26 +15,14 @@ read-requires c κs = search needs
 enum-known-answer : tie.Need-enum-known-answer
 enum-known-answer c = search needs
 
-too-small-requires : tie.Need-too-small-requires
-too-small-requires c κs = search needs
-
-returns : tie.Need-returns
-returns c =
-    let k = c .before .before .before in
-    let r = k .before .before in
-    let s = r .before .before .before in
-    let bytes = now (s .args .bytes) in
-    rw (c .too-small .ensures)
-    (listed-short (verdictOf bytes) 11 (arrayNumbers (readOf bytes)) (now (s .args .out)) _ (array-said bytes _ (sym (k .answer .given .1) ∙ r .read .ensures)) (omega arith))
-
 numbers-of-requires : tie.Need-numbers-of-requires
 numbers-of-requires c κs = search needs
 
-slice-aggregate-put-all : tie.Need-slice-aggregate-put-all
-slice-aggregate-put-all c = search needs
+slice-aggregate-list : tie.Need-slice-aggregate-list
+slice-aggregate-list c = search needs
 
-put-all-requires : tie.Need-put-all-requires
-put-all-requires c κs = search needs
+list-requires : tie.Need-list-requires
+list-requires c κs = search needs
 
 enum-known-answer-2 : tie.Need-enum-known-answer-2
 enum-known-answer-2 c = search needs
@@ -49,32 +33,32 @@ enum-known-answer-3 c = search needs
 same-length : tie.Need-same-length
 same-length c = search needs
 
+returns : tie.Need-returns
+returns c =
+    let l = c .before .before in
+    let f = c .before .before .before .before .before in
+    let k = f .before .before in
+    let r = k .before .before in
+    let a = r .before .before .before .args in
+    let bytes = now (a .bytes) in
+    let e = sym (k .answer .given .1) ∙ r .read .ensures in
+    listed-as (arrayNumbers (readOf bytes)) (now (a .out)) (verdictOf bytes) _ (f .numbers-of .result) (l .list .result) (l .list .last .1 .1 .0) (array-said bytes _ e) (f .numbers-of .ensures ∙ ap arrayNumbers e) (l .list .ensures)
+
 returns-2 : tie.Need-returns-2
 returns-2 c =
-    let f = c .before .before .before .before .before in
-    let k = f .before .before .before in
+    let k = c .before in
     let r = k .before .before in
-    let s = r .before .before .before in
-    let bytes = now (s .args .bytes) in
-    let e = sym (k .answer .given .1) ∙ r .read .ensures in
-    listed-whole (verdictOf bytes) 11 (arrayNumbers (readOf bytes)) (now (s .args .out)) _ _ (array-said bytes _ e) (omega arith)
-    (c .before .before .put-all .ensures ∙ ap (λ (l : List ℕ). over l (now (s .args .out))) (f .numbers-of .ensures ∙ ap arrayNumbers e))
+    let a = r .before .before .before .args in
+    let bytes = now (a .bytes) in
+    listed-unfinished (arrayNumbers (readOf bytes)) (now (a .out)) (verdictOf bytes) _ (array-said bytes _ (sym (k .answer2 .given .1) ∙ r .read .ensures))
 
 returns-3 : tie.Need-returns-3
 returns-3 c =
     let k = c .before in
     let r = k .before .before in
-    let s = r .before .before .before in
-    let bytes = now (s .args .bytes) in
-    listed-unfinished (verdictOf bytes) 11 (arrayNumbers (readOf bytes)) (now (s .args .out)) _ (array-said bytes _ (sym (k .answer2 .given .1) ∙ r .read .ensures))
-
-returns-4 : tie.Need-returns-4
-returns-4 c =
-    let k = c .before in
-    let r = k .before .before in
-    let s = r .before .before .before in
-    let bytes = now (s .args .bytes) in
-    listed-refused (verdictOf bytes) 11 (arrayNumbers (readOf bytes)) (now (s .args .out)) _ (array-said bytes _ (sym (k .answer3 .given .1) ∙ r .read .ensures))
+    let a = r .before .before .before .args in
+    let bytes = now (a .bytes) in
+    listed-refused (arrayNumbers (readOf bytes)) (now (a .out)) (verdictOf bytes) _ (array-said bytes _ (sym (k .answer3 .given .1) ∙ r .read .ensures))
 
 pub list-numbers-spec : {M : Type 1} → statement M
 list-numbers-spec =
@@ -82,14 +66,12 @@ list-numbers-spec =
     (tie.spec
     read-requires
     enum-known-answer
-    too-small-requires
-    returns
     numbers-of-requires
-    slice-aggregate-put-all
-    put-all-requires
+    slice-aggregate-list
+    list-requires
     enum-known-answer-2
     enum-known-answer-3
     same-length
+    returns
     returns-2
-    returns-3
-    returns-4)
+    returns-3)
