@@ -1,23 +1,25 @@
 -- What the loops that fill the lent lists read in a whole pack: each value at its place. Assumes nothing.
-use Prim.Native.Nat.{ℕ, _+_, _*_, _≤_, _<_}
+use Prim.Native.Nat.{ℕ, _+_, _*_, _≤_, _<_, min}
 use mathlib.Core.Path.{_≡_, _∙_, ap, sym, subst}
-use mathlib.Core.Bool.{cond}
+use mathlib.Core.Bool.{false, cond}
 use mathlib.Core.List.{List}
 use native.Mathlib.Nat.{mul-le-mul-right, suc-mul}
 use native.Mathlib.Numerals.{add-one}
 use native.Mathlib.Omega.{arith}
 use lib.Dec.{eqb}
-use lib.ListN.{length, take, getD}
+use lib.ListN.{length, take, drop, replicate, getD}
+use lib.Seq.{drop-drop}
 use Rattle.word.specs.Bytes.{wordAt}
+use Rattle.word.specs.Many.{wordsIn}
 use Rattle.matrix.specs.declared.Fields.{Fields}
 use Rattle.matrixreader.specs.declared.walk.Found.{Found}
 use Rattle.matrix.specs.Meaning.{pairs, sum, nought}
-use Rattle.matrix.specs.Spelling.{vectorBytes, meaningOf}
+use Rattle.matrix.specs.Spelling.{vectorBytes, read, meaningOf}
 use Rattle.matrix.proofs.ControlBytes.{clen-small, slen-small}
 use Rattle.matrix.proofs.Pairs.{pairs-most}
 use Rattle.unpack.specs.Found.{Whole, coefficientAt}
-use Rattle.unpack.proofs.Sums.{sum-more, sum-first-most}
-use Rattle.unpack.proofs.Values.{deviation-at, coefficient-at}
+use Rattle.unpack.proofs.Sums.{sum-more, sum-first-most, sum-full}
+use Rattle.unpack.proofs.Values.{read-sent, read-all, deviation-at, coefficient-at}
 
 -- how large the fields of a lawful pack are
 pub record Small (f : Fields) : Type 0 where
@@ -51,6 +53,15 @@ module _ (bytes : List ℕ) (found : Found) (whole : Whole bytes found) where
   vector-within = subst (λ (g : Fields). 3 + vectorBytes g ≤ length bytes) (sym (whole .fields)) (omega (arith, whole .start, whole .within))
 
   -- ---- deviations
+
+  -- all of them, one after the other
+  pub deviations-stand : meaningOf bytes .deviations ≡ wordsIn (f .slen) (f .n) (drop (found .words) bytes)
+  deviations-stand =
+      subst (λ (g : Fields). meaningOf bytes .deviations ≡ wordsIn (g .slen) (g .n) (drop (found .words) bytes)) (sym (whole .fields))
+      (let g = meaningOf bytes .fields in rw (whole .start, ← drop-drop (vectorBytes g) 3 bytes) (read-sent (g .slen) 0 (g .n) (drop (vectorBytes g) (drop 3 bytes))))
+
+  pub deviations-within : found .words + f .n * f .slen ≤ length bytes
+  deviations-within = subst (λ (g : Fields). found .words + g .n * g .slen ≤ length bytes) (sym (whole .fields)) (omega (arith, whole .within))
 
   -- a deviation's word is within the bytes
   pub deviation-within : (i : ℕ) → i < f .n → found .words + i * f .slen + f .slen ≤ length bytes
@@ -98,3 +109,27 @@ module _ (bytes : List ℕ) (found : Found) (whole : Whole bytes found) where
 
     pub coefficient-is : (none word : ℕ) → none ≡ nought f → word ≡ cond (eqb mark 0) none (wordAt bytes place (f .clen)) → word ≡ getD (meaningOf bytes .coefficients) pair 0
     coefficient-is none word n w = w ∙ rw (n, e, p) (coefficient-here pair h)
+
+  -- ---- the coefficients of a full matrix
+
+  module _ (full : f .cs ≡ false) where
+    all-marked : meaningOf bytes .marks ≡ replicate (pairs (f .n)) (min 1 (f .clen))
+    all-marked =
+        subst (λ (g : Fields). g .cs ≡ false → meaningOf bytes .marks ≡ replicate (pairs (g .n)) (min 1 (g .clen))) (sym (whole .fields)) (λ e. rw e) full
+
+    module _ (number : ℕ) (as-many : number ≡ pairs (f .n)) where
+      pub marks-stand : (mark : ℕ) → mark ≡ min 1 (f .clen) → meaningOf bytes .marks ≡ replicate number mark
+      marks-stand mark e = rw (as-many, e) all-marked
+
+      pub coefficients-stand : meaningOf bytes .coefficients ≡ wordsIn (f .clen) number (drop (found .words + f .n * f .slen) bytes)
+      coefficients-stand =
+          subst (λ (g : Fields). number ≡ pairs (g .n) → meaningOf bytes .marks ≡ replicate (pairs (g .n)) (min 1 (g .clen)) → meaningOf bytes .coefficients ≡ wordsIn (g .clen) number (drop (found .words + g .n * g .slen) bytes)) (sym (whole .fields))
+          (λ e all.
+          let g = meaningOf bytes .fields in
+          let values = drop (g .n * g .slen) (drop (vectorBytes g) (drop 3 bytes)) in
+          rw (e, whole .start, ← drop-drop (g .n * g .slen) (3 + vectorBytes g) bytes, ← drop-drop (vectorBytes g) 3 bytes)
+          (ap (λ (ms : List ℕ). read (g .clen) (nought g) ms values) all ∙ read-all g (pairs (g .n)) values))
+          as-many all-marked
+
+    pub coefficients-within : found .words + f .n * f .slen + pairs (f .n) * f .clen ≤ length bytes
+    coefficients-within = omega (arith, words-within, ap (λ (ms : List ℕ). sum ms * f .clen) all-marked, sum-full (pairs (f .n)) (f .clen))

@@ -1,10 +1,12 @@
 -- Sums of the first entries of a list. Assumes nothing.
-use Prim.Native.Nat.{ℕ, zero, suc, _+_, _≤_, _<_}
+use Prim.Native.Nat.{ℕ, zero, suc, _+_, _*_, _≤_, _<_, min}
 use mathlib.Core.Path.{_≡_, refl}
 use mathlib.Core.List.{List, [], _∷_}
+use native.Mathlib.Nat.{mul-zero}
 use native.Mathlib.Omega.{arith}
 use lib.ListN.{length, take, getD, replicate}
 use Rattle.matrix.specs.Meaning.{sum}
+use Rattle.matrix.proofs.BitVector.{sum-same}
 
 pub sum-more : (xs : List ℕ) (i : ℕ) → i < length xs → sum (take (suc i) xs) ≡ sum (take i xs) + getD xs i 0
 unfolding sum
@@ -24,3 +26,8 @@ unfolding sum
 sum-ones n zero h = refl
 sum-ones zero (suc i) h = absurd (omega arith)
 sum-ones (suc n) (suc i) h = omega (arith, sum-ones n i (omega arith))
+
+-- so many words that are all sent or have no bytes
+pub sum-full : (number size : ℕ) → sum (replicate number (min 1 size)) * size ≡ number * size
+sum-full number zero = omega (arith, mul-zero (sum (replicate number (min 1 0))))
+sum-full number (suc size) = let one : min 1 (suc size) ≡ 1 = omega arith in rw (one, sum-same number 1) (omega arith)

@@ -1,6 +1,6 @@
 -- Where each value of a meaning stands in its bytes. Assumes nothing.
 use Prim.Native.Nat.{ℕ, zero, suc, _+_, _-_, _*_, _/_, _%_, _^_, _≤_, _<_, min}
-use mathlib.Core.Path.{_≡_, _∙_, ap, sym}
+use mathlib.Core.Path.{_≡_, refl, _∙_, ap, sym}
 use mathlib.Core.Bool.{Bool, true, false, cond}
 use mathlib.Core.List.{List, [], _∷_}
 use native.Mathlib.Nat.{zero-mul}
@@ -8,7 +8,9 @@ use native.Mathlib.Omega.{arith}
 use lib.Dec.{eqb}
 use lib.ListN.{length, take, drop, getD, replicate, length-drop, length-replicate, getD-replicate}
 use lib.Seq.{getD-take, getD-drop, drop-drop, length-take-le}
+use Rattle.word.specs.Digits.{valueOn, valueOf}
 use Rattle.word.specs.Bytes.{wordAt}
+use Rattle.word.specs.Many.{wordsIn}
 use Rattle.matrix.specs.declared.Fields.{Fields}
 use Rattle.matrix.specs.Meaning.{pairs, sum, nought}
 use Rattle.matrix.specs.Spelling.{vectorBytes, bits, marksOf, read, meaningOf}
@@ -26,6 +28,35 @@ read-at size none (mark ∷ marks) bytes zero h = rw zero-mul
 read-at size none (mark ∷ marks) bytes (suc i) h =
     let e : mark * size + sum (take i marks) * size ≡ (mark + sum (take i marks)) * size = omega arith in
     read-at size none marks (drop (mark * size) bytes) i (omega arith) ∙ rw (drop-drop, e)
+
+-- words that are all sent stand one after the other
+pub read-sent : (size none number : ℕ) (bytes : List ℕ) → read size none (replicate number 1) bytes ≡ wordsIn size number bytes
+unfolding read wordsIn
+read-sent size none zero bytes = refl
+read-sent size none (suc number) bytes =
+    let e : 1 * size ≡ size = omega arith in
+    rw e (ap (λ (ws : List ℕ). valueOf 256 (take size bytes) ∷ ws) (read-sent size none number (drop size bytes)))
+
+-- words of no bytes are 0
+read-nothing : (number : ℕ) (bytes : List ℕ) → read 0 0 (replicate number 0) bytes ≡ wordsIn 0 number bytes
+unfolding read wordsIn valueOn
+read-nothing zero bytes = refl
+read-nothing (suc number) bytes = ap (λ (ws : List ℕ). 0 ∷ ws) (read-nothing number bytes)
+
+nought-nothing : (f : Fields) → f .clen ≡ 0 → nought f ≡ 0
+nought-nothing f e = by (f .cf)
+  where
+    by : (mapped : Bool) → cond mapped (256 ^ f .clen / 4) 0 ≡ 0
+    by true = rw e
+    by false = refl
+
+-- words that are all sent or have no bytes
+pub read-all : (f : Fields) (number : ℕ) (bytes : List ℕ) → read (f .clen) (nought f) (replicate number (min 1 (f .clen))) bytes ≡ wordsIn (f .clen) number bytes
+read-all f number bytes = by (f .clen) refl
+  where
+    by : (size : ℕ) → f .clen ≡ size → read (f .clen) (nought f) (replicate number (min 1 (f .clen))) bytes ≡ wordsIn (f .clen) number bytes
+    by zero e = rw (nought-nothing f e, e) (read-nothing number bytes)
+    by (suc size) e = let one : min 1 (f .clen) ≡ 1 = omega arith in rw one (read-sent (f .clen) (nought f) number bytes)
 
 -- a word behind a place
 word-behind : (bytes : List ℕ) (from place size : ℕ) → wordAt (drop from bytes) place size ≡ wordAt bytes (from + place) size
@@ -70,5 +101,3 @@ module _ (bytes : List ℕ) (f : Fields) (same : f ≡ meaningOf bytes .fields) 
   pub mark-full : f .cs ≡ false → getD (meaningOf bytes .marks) pair 0 ≡ min 1 (f .clen)
   mark-full e =
       ap (λ (g : Fields). getD (marksOf g (take (vectorBytes g) (drop 3 bytes))) pair 0) (sym same) ∙ rw e (getD-replicate {A = ℕ} (pairs (f .n)) pair (min 1 (f .clen)) 0 h)
-
--- ---- one word

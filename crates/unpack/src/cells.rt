@@ -1,5 +1,5 @@
 // The cells of the expanded matrix: deviations on the diagonal, each coefficient at both of its places.
-ghost use Prim.Native.Nat.{_+_, min};
+ghost use Prim.Native.Nat.{_+_};
 ghost use Rattle.verdict.specs.declared.Verdict.the-variants.{Complete};
 ghost use Rattle.matrix.specs.Spelling.{meaningOf};
 ghost use Rattle.unpack.specs.Unpacking.{ExpandedFor};
@@ -7,6 +7,7 @@ ghost use Rattle.unpack.specs.Found.{Whole};
 ghost use Rattle.unpack.specs.Cells.{diagonal, ofRow, ofRows, Grid, At, Room, RowFrom};
 ghost use mathlib.Core.Path.{_≡_};
 use crate::words::mark_at;
+use crate::words::mark_of;
 use crate::words::nought_of;
 use crate::words::too_small;
 use crate::words::word_at;
@@ -20,20 +21,13 @@ pub(crate) struct Next {
     pub pair: usize,
 }
 
-// The mark of all deviations: 0 if they have no bytes.
-fn deviation_mark(slen: usize) -> u8
-    ensures { λ r. ⌜ r ≡ min 1 slen ⌝ }
-{
-    if slen == 0 { 0 } else { 1 }
-}
-
 fn fill_diagonal(bytes: &[u8], found: Found, words: &mut [u64], marks: &mut [u8])
     requires { ⌜ Whole (now bytes) found × Room (meaningOf (now bytes)) (now words) (now marks) ⌝ }
     ensures { λ _. ⌜ Grid (meaningOf (now (bytes .entry))) (diagonal (found .fields .n)) (now (words .entry)) (now (marks .entry)) (now (words .exit)) (now (marks .exit)) ⌝ }
 {
     let n = found.fields.n;
     let length = found.fields.slen;
-    let mark = deviation_mark(length);
+    let mark = mark_of(length);
     let mut place = found.words;
     let mut i = 0;
     while i < n {

@@ -1,10 +1,11 @@
 // The words of a whole pack, one after the other: deviations, then coefficients by their marks.
 ghost use mathlib.Core.Path.{_≡_};
-ghost use mathlib.Core.Bool.{cond};
-ghost use Prim.Native.Nat.{_+_, _*_, _≤_, _<_};
-ghost use lib.ListN.{length as count, getD};
+ghost use mathlib.Core.Bool.{false, cond};
+ghost use Prim.Native.Nat.{_+_, _*_, _≤_, _<_, min};
+ghost use lib.ListN.{length as count, drop, replicate, getD};
 ghost use lib.Dec.{eqb};
 ghost use Rattle.word.specs.Bytes.{wordAt};
+ghost use Rattle.word.specs.Many.{wordsIn};
 ghost use Rattle.verdict.specs.declared.Reason.the-variants.{SmallBuffer};
 ghost use Rattle.verdict.specs.declared.Verdict.the-variants.{Complete, Refused};
 ghost use Rattle.matrix.specs.Meaning.{pairs, nought};
@@ -18,6 +19,7 @@ use verdict::Refusal;
 use verdict::Verdict;
 use word::bytes::Read;
 use word::bytes::read_at;
+use word::many::read_all;
 
 // The word of `length` bytes at a place where they are.
 pub(crate) fn word_at(bytes: &[u8], place: usize, length: usize) -> u64
@@ -65,6 +67,13 @@ pub(crate) fn pairs_of(n: usize) -> usize
     n * (n - 1) / 2
 }
 
+// The mark of values that are all sent: 0 if they have no bytes.
+pub(crate) fn mark_of(length: usize) -> u8
+    ensures { λ r. ⌜ r ≡ min 1 length ⌝ }
+{
+    if length == 0 { 0 } else { 1 }
+}
+
 // The mark of a pair: its bit of the vector, or whether coefficients have bytes.
 pub(crate) fn mark_at(bytes: &[u8], f: Fields, pair: usize) -> u8
     requires { ⌜ (f ≡ meaningOf (now bytes) .fields) × ((pair < pairs (f .n)) × (3 + vectorBytes f ≤ count (now bytes))) ⌝ }
@@ -73,28 +82,62 @@ pub(crate) fn mark_at(bytes: &[u8], f: Fields, pair: usize) -> u8
     if f.cs {
         return (bytes[3 + pair / 8] >> (7 - pair % 8)) % 2;
     }
-    if f.clen == 0 {
-        return 0;
+    mark_of(f.clen)
+}
+
+// So many words of a length, from a place on, over the first entries of a list.
+fn fill_words(bytes: &[u8], place: usize, length: usize, number: usize, out: &mut [u64])
+    requires { ⌜ (length ≤ 8) × ((place + number * length ≤ count (now bytes)) × (number ≤ count (now out))) ⌝ }
+    ensures { λ _. ⌜ now (out .exit) ≡ over (wordsIn length number (drop place (now (bytes .entry)))) (now (out .entry)) ⌝ }
+{
+    let end = place + number * length;
+    read_all(&bytes[place..end], length, &mut out[..number]);
+}
+
+// The same mark over the first entries of a list.
+fn fill_marks(marks: &mut [u8], number: usize, mark: u8)
+    requires { ⌜ number ≤ count (now marks) ⌝ }
+    ensures { λ _. ⌜ now (marks .exit) ≡ over (replicate number mark) (now (marks .entry)) ⌝ }
+{
+    let mut i = 0;
+    while i < number {
+        marks[i] = mark;
+        i += 1;
     }
-    1
 }
 
 fn fill_deviations(bytes: &[u8], found: Found, deviations: &mut [u64])
     requires { ⌜ Whole (now bytes) found × (found .fields .n ≤ count (now deviations)) ⌝ }
     ensures { λ _. ⌜ now (deviations .exit) ≡ over (meaningOf (now (bytes .entry)) .deviations) (now (deviations .entry)) ⌝ }
 {
-    let n = found.fields.n;
-    let length = found.fields.slen;
-    let mut place = found.words;
-    let mut i = 0;
-    while i < n {
-        deviations[i] = word_at(bytes, place, length);
-        place += length;
-        i += 1;
-    }
+    fill_words(
+        bytes,
+        found.words,
+        found.fields.slen,
+        found.fields.n,
+        deviations,
+    );
 }
 
-fn fill_coefficients(bytes: &[u8], found: Found, coefficients: &mut [u64], marks: &mut [u8])
+// The coefficients of a full matrix, which are all sent or have no bytes.
+fn fill_all(bytes: &[u8], found: Found, coefficients: &mut [u64], marks: &mut [u8])
+    requires { ⌜ Whole (now bytes) found × ((pairs (found .fields .n) ≤ count (now coefficients)) × ((pairs (found .fields .n) ≤ count (now marks)) × (found .fields .cs ≡ false))) ⌝ }
+    ensures { λ _. ⌜ (now (coefficients .exit) ≡ over (meaningOf (now (bytes .entry)) .coefficients) (now (coefficients .entry))) × (now (marks .exit) ≡ over (meaningOf (now (bytes .entry)) .marks) (now (marks .entry))) ⌝ }
+{
+    let f = found.fields;
+    let number = pairs_of(f.n);
+    fill_words(
+        bytes,
+        found.words + f.n * f.slen,
+        f.clen,
+        number,
+        coefficients,
+    );
+    fill_marks(marks, number, mark_of(f.clen));
+}
+
+// The coefficients of a sparse matrix, by their bits.
+fn fill_sent(bytes: &[u8], found: Found, coefficients: &mut [u64], marks: &mut [u8])
     requires { ⌜ Whole (now bytes) found × ((pairs (found .fields .n) ≤ count (now coefficients)) × (pairs (found .fields .n) ≤ count (now marks))) ⌝ }
     ensures { λ _. ⌜ (now (coefficients .exit) ≡ over (meaningOf (now (bytes .entry)) .coefficients) (now (coefficients .entry))) × (now (marks .exit) ≡ over (meaningOf (now (bytes .entry)) .marks) (now (marks .entry))) ⌝ }
 {
@@ -110,6 +153,17 @@ fn fill_coefficients(bytes: &[u8], found: Found, coefficients: &mut [u64], marks
         coefficients[pair] = word_or(bytes, place, length, mark, none);
         place += mark as usize * length;
         pair += 1;
+    }
+}
+
+fn fill_coefficients(bytes: &[u8], found: Found, coefficients: &mut [u64], marks: &mut [u8])
+    requires { ⌜ Whole (now bytes) found × ((pairs (found .fields .n) ≤ count (now coefficients)) × (pairs (found .fields .n) ≤ count (now marks))) ⌝ }
+    ensures { λ _. ⌜ (now (coefficients .exit) ≡ over (meaningOf (now (bytes .entry)) .coefficients) (now (coefficients .entry))) × (now (marks .exit) ≡ over (meaningOf (now (bytes .entry)) .marks) (now (marks .entry))) ⌝ }
+{
+    if found.fields.cs {
+        fill_sent(bytes, found, coefficients, marks);
+    } else {
+        fill_all(bytes, found, coefficients, marks);
     }
 }
 

@@ -8,12 +8,13 @@ use native.Mathlib.Omega.{arith}
 use native.Mathlib.Nat.{zero-add, zero-mul, mul-zero, suc-mul, mul-le-mul-right, div-add-mod', mul-div-cancel, mul-mod-left, le-of-eq}
 use borrow.Author.Tests.{eqb-true, eqb-false, eq-eqb, lt-ltb, le-ltb, ltb-false, not-false}
 use lib.Dec.{eqb}
-use lib.ListN.{length, take, drop, getD, set, length-append, length-drop, drop-of-length-le}
-use lib.Seq.{take-at, drop-at, take-all, take-suc, take-add, drop-drop, length-take-le}
+use lib.ListN.{length, take, drop, getD, set, length-append, length-drop, drop-of-length-le, take-append-drop}
+use lib.Seq.{take-at, drop-at, take-all, take-suc, take-add, take-append-le, drop-append-le, drop-drop, length-take-le}
 use Rattle.verdict.specs.declared.Judged.the-variants.{Kept, Broken}
 use Rattle.verdict.specs.declared.Reason.{Reason}
 use Rattle.verdict.specs.declared.Reason.the-variants.{ValueLength, Disagree}
 use Rattle.verdict.specs.Judgement.{judgement}
+use Rattle.verdict.specs.declared.Verdict.{Verdict}
 use Rattle.verdict.specs.declared.Verdict.the-variants.{Complete}
 use Rattle.verdict.specs.Writing.{put, refusing, WrittenBy}
 use Rattle.verdict.proofs.Cases.{either}
@@ -40,6 +41,20 @@ unfolding wordsIn
 getD-words n zero bytes i h = absurd (omega arith)
 getD-words n (suc words) bytes zero h = rw zero-mul
 getD-words n (suc words) bytes (suc i) h = getD-words n words (drop n bytes) i (omega arith) ∙ word-past n i bytes
+
+-- words are those of the bytes that have all of theirs, whatever stands behind
+pub words-append : (n words : ℕ) (bytes more : List ℕ) → words * n ≤ length bytes → wordsIn n words (bytes ++ more) ≡ wordsIn n words bytes
+unfolding wordsIn
+words-append n zero bytes more h = refl
+words-append n (suc words) bytes more h =
+    let e : suc words * n ≡ n + words * n = omega (arith, suc-mul words n) in
+    let room : words * n ≤ length (drop n bytes) = rw length-drop (omega arith) in
+    rw (take-append-le n bytes more (omega arith), drop-append-le n bytes more (omega arith), words-append n words (drop n bytes) more room)
+
+-- and so of so many of the bytes
+pub words-take : (n words k : ℕ) (bytes : List ℕ) → words * n ≤ k → k ≤ length bytes → wordsIn n words (take k bytes) ≡ wordsIn n words bytes
+words-take n words k bytes h l =
+    sym (words-append n words (take k bytes) (drop k bytes) (rw (length-take-le k bytes l) h)) ∙ ap (wordsIn n words) (take-append-drop k bytes)
 
 -- one word more
 pub words-more : (n words : ℕ) (bytes : List ℕ) → wordsIn n (suc words) bytes ≡ wordsIn n words bytes ++ (wordAt bytes (words * n) n ∷ [])
@@ -211,3 +226,9 @@ module _ (n words bytes : ℕ) where
     whole-left out′ k l p =
         let e = decided-kept (manyRows n words bytes) (Complete (length list)) (judgement-kept (manyRows n words bytes) (sym k)) in
         record { said = rw e (ap (λ (bs : List ℕ). Complete (length bs)) p); left = rw e (p ∙ sym (put-whole out list l)) }
+
+    -- where the bytes are as many as the words have, the whole list is left
+    pub left-whole : (answer : Verdict) (out′ : List ℕ) → WrittenBy (manyRows n words bytes) list out 0 answer out′ → n ≤ 8 → bytes ≡ words * n → length list ≡ length out → out′ ≡ list
+    left-whole answer out′ w short held l =
+        let k = judgement-kept (manyRows n words bytes) (sym (judged-kept short true (sym (eq-eqb bytes (words * n) held)) refl)) in
+        w .left ∙ rw (decided-kept (manyRows n words bytes) (Complete (length list)) k) (put-whole out list l)

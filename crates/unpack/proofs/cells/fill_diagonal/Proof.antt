@@ -51,8 +51,8 @@ module _ (c : tie.In-loop Inv-loop μ-loop) where
   cell-there : (i * n + i < count (c .before .loop .words)) × (i * n + i < count (c .before .loop .marks))
   cell-there = cell-within (meaningOf bytes) n same (s .pre .1) (c .before .loop .inv .1 .1) i i (c .loop-test .taken) (c .loop-test .taken)
 
-deviation-mark-requires : tie.Need-deviation-mark-requires Inv-loop μ-loop
-deviation-mark-requires c κs = search needs
+mark-of-requires : tie.Need-mark-of-requires Inv-loop μ-loop
+mark-of-requires c κs = search needs
 
 loop-holds : tie.Need-loop-holds Inv-loop μ-loop
 loop-holds c = let s = c .before .before .before .before in (omega arith, (omega arith, diagonal-none (meaningOf (now (s .args .bytes))) (now (s .args .words)) (now (s .args .marks))))
@@ -89,7 +89,7 @@ loop-again c =
     let g = s (c .before) in
     let l = c .before .before .loop in
     let word = deviation-is (bytes (c .before)) (g .args .found) (g .pre .0) (l .i) (l .place) (c .word-at .result) (c .before .loop-test .taken) (l .inv .1 .0) (c .word-at .ensures) in
-    let mark = c .before .before .before .deviation-mark in (
+    let mark = c .before .before .before .mark-of in (
       omega arith,
       (
         omega (arith, l .inv .1 .0),
@@ -116,7 +116,7 @@ fill-diagonal-spec =
     (tie.spec
     Inv-loop
     μ-loop
-    deviation-mark-requires
+    mark-of-requires
     loop-holds
     mul-cell
     add-cell

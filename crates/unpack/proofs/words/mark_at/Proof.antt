@@ -10,8 +10,8 @@ use Rattle.unpack.proofs.words.mark_at.Statement.{statement}
 use Rattle.unpack.proofs.words.mark_at.Tie as tie
 
 -- the byte of the pair's bit is there
-inside : (c : tie.Then1) → let a = c .before .args in 3 + a .pair / 8 < length (now (a .bytes))
-inside c = let s = c .before in omega (arith, vector-place (s .args .f) (s .args .pair) (c .if1 .taken) (s .pre .1 .0), s .pre .1 .1)
+inside : (c : tie.Then1) → let a = c .before .before .args in 3 + a .pair / 8 < length (now (a .bytes))
+inside c = let s = c .before .before in omega (arith, vector-place (s .args .f) (s .args .pair) (c .if1 .taken) (s .pre .1 .0), s .pre .1 .1)
 
 add-result : tie.Need-add-result
 add-result c = search needs
@@ -29,13 +29,13 @@ shr-result : tie.Need-shr-result
 shr-result c = search needs
 
 returns : tie.Need-returns
-returns c = let s = c .before .before in sym (mark-sparse (now (s .args .bytes)) (s .args .f) (s .pre .0) (s .args .pair) (s .pre .1 .0) (c .before .if1 .taken) (s .pre .1 .1))
+returns c = let s = c .before .before .before in sym (mark-sparse (now (s .args .bytes)) (s .args .f) (s .pre .0) (s .args .pair) (s .pre .1 .0) (c .before .if1 .taken) (s .pre .1 .1))
+
+mark-of-requires : tie.Need-mark-of-requires
+mark-of-requires c κs = search needs
 
 returns-2 : tie.Need-returns-2
-returns-2 c = let s = c .before .before .before in sym (mark-full (now (s .args .bytes)) (s .args .f) (s .pre .0) (s .args .pair) (s .pre .1 .0) (c .before .before .if1 .left) ∙ omega arith)
-
-returns-3 : tie.Need-returns-3
-returns-3 c = let s = c .before .before .before in sym (mark-full (now (s .args .bytes)) (s .args .f) (s .pre .0) (s .args .pair) (s .pre .1 .0) (c .before .before .if1 .left) ∙ omega arith)
+returns-2 c = let s = c .before .before .before in c .mark-of .ensures ∙ sym (mark-full (now (s .args .bytes)) (s .args .f) (s .pre .0) (s .args .pair) (s .pre .1 .0) (c .before .if1 .left))
 
 pub mark-at-spec : {M : Type 1} → statement M
 mark-at-spec =
@@ -47,5 +47,5 @@ mark-at-spec =
     cast-result
     shr-result
     returns
-    returns-2
-    returns-3)
+    mark-of-requires
+    returns-2)

@@ -1,4 +1,4 @@
--- `unpack::words::fill_coefficients` meets its contract. The loop's invariant: the first `pair` coefficients and marks are filled in. Assumes nothing.
+-- `unpack::words::fill_sent` meets its contract. The loop's invariant: the first `pair` coefficients and marks are filled in. Assumes nothing.
 use Prim.Native.Nat.{ℕ, _+_, _-_, _*_, _≤_, _<_}
 use mathlib.Core.Path.{_≡_, refl, _∙_}
 use mathlib.Core.List.{List}
@@ -11,8 +11,8 @@ use Rattle.unpack.specs.Found.{coefficientAt, overFirst}
 use Rattle.unpack.proofs.Overlay.{filled-more, filled-length, filled-all}
 use Rattle.unpack.proofs.Filling.{Small, small, vector-within, words-within, coefficient-count, mark-count, coefficient-place, coefficient-next, coefficient-within, coefficient-is}
 use borrow.Author.Needs.{needs}
-use Rattle.unpack.proofs.words.fill_coefficients.Statement.{statement}
-use Rattle.unpack.proofs.words.fill_coefficients.Tie as tie
+use Rattle.unpack.proofs.words.fill_sent.Statement.{statement}
+use Rattle.unpack.proofs.words.fill_sent.Tie as tie
 
 abbrev Inv-loop : tie.InvT-loop
 Inv-loop bytes coefficients₀ marks₀ f count none length place₀ pair₀ coefficients marks place pair =
@@ -141,8 +141,8 @@ returns c =
       filled-all (m .marks) (now (g .args .marks)) (l .loop .marks) (l .loop .pair) (l .loop .inv .1 .1 .1) (omega (arith, l .loop .inv .0, c .loop-test .left, count-is l, mark-count (bytes l) (g .args .found) (g .pre .0))),
     )
 
-pub fill-coefficients-spec : {M : Type 1} → statement M
-fill-coefficients-spec =
+pub fill-sent-spec : {M : Type 1} → statement M
+fill-sent-spec =
     tie.close
     (tie.spec
     Inv-loop
