@@ -1,25 +1,27 @@
 -- What the loops that fill the lent lists read in a whole pack: each value at its place. Assumes nothing.
-use Prim.Native.Nat.{ℕ, _+_, _*_, _≤_, _<_, min}
-use mathlib.Core.Path.{_≡_, _∙_, ap, sym, subst}
+use Prim.Native.Nat.{ℕ, _+_, _-_, _*_, _≤_, _<_, min}
+use mathlib.Core.Path.{_≡_, refl, _∙_, ap, sym, subst}
 use mathlib.Core.Bool.{false, cond}
 use mathlib.Core.List.{List}
 use native.Mathlib.Nat.{mul-le-mul-right, suc-mul}
 use native.Mathlib.Numerals.{add-one}
 use native.Mathlib.Omega.{arith}
 use lib.Dec.{eqb}
-use lib.ListN.{length, take, drop, replicate, getD}
+use lib.ListN.{length, take, drop, replicate, getD, getD-replicate}
 use lib.Seq.{drop-drop}
 use Rattle.word.specs.Bytes.{wordAt}
 use Rattle.word.specs.Many.{wordsIn}
+use Rattle.word.proofs.Words.{getD-words}
 use Rattle.matrix.specs.declared.Fields.{Fields}
 use Rattle.matrixreader.specs.declared.walk.Found.{Found}
 use Rattle.matrix.specs.Meaning.{pairs, sum, nought}
+use Rattle.matrix.specs.Order.{pairAt}
 use Rattle.matrix.specs.Spelling.{vectorBytes, read, meaningOf}
 use Rattle.matrix.proofs.ControlBytes.{clen-small, slen-small}
 use Rattle.matrix.proofs.Pairs.{pairs-most}
 use Rattle.unpack.specs.Found.{Whole, coefficientAt}
-use Rattle.unpack.proofs.Sums.{sum-more, sum-first-most, sum-full}
-use Rattle.unpack.proofs.Values.{read-sent, read-all, deviation-at, coefficient-at}
+use Rattle.unpack.proofs.Sums.{sum-more, sum-first-most, sum-full, sum-first-full}
+use Rattle.unpack.proofs.Values.{read-sent, read-all, word-behind, deviation-at, coefficient-at}
 
 -- how large the fields of a lawful pack are
 pub record Small (f : Fields) : Type 0 where
@@ -133,3 +135,30 @@ module _ (bytes : List ℕ) (found : Found) (whole : Whole bytes found) where
 
     pub coefficients-within : found .words + f .n * f .slen + pairs (f .n) * f .clen ≤ length bytes
     coefficients-within = omega (arith, words-within, ap (λ (ms : List ℕ). sum ms * f .clen) all-marked, sum-full (pairs (f .n)) (f .clen))
+
+    -- before a coefficient stand all the others, or none has bytes
+    pub full-place : (pair : ℕ) → pair ≤ pairs (f .n) → coefficientAt (meaningOf bytes) found pair ≡ found .words + f .n * f .slen + pair * f .clen
+    full-place pair h = omega (arith, coefficient-place pair, ap (λ (ms : List ℕ). sum (take pair ms) * f .clen) all-marked, sum-first-full (pairs (f .n)) pair (f .clen) h)
+
+    pub full-mark : (pair mark : ℕ) → pair < pairs (f .n) → mark ≡ min 1 (f .clen) → mark ≡ getD (meaningOf bytes .marks) pair 0
+    full-mark pair mark h e = e ∙ sym (ap (λ (ms : List ℕ). getD ms pair 0) all-marked ∙ getD-replicate {A = ℕ} (pairs (f .n)) pair (min 1 (f .clen)) 0 h)
+
+    module _ (pair place : ℕ) (h : pair < pairs (f .n)) (p : place ≡ coefficientAt (meaningOf bytes) found pair) where
+      pub full-within : place + f .clen ≤ length bytes
+      full-within = omega (arith, p, full-place pair (omega arith), coefficients-within, mul-le-mul-right (f .clen) h, suc-mul pair (f .clen))
+
+      pub full-word : (word : ℕ) → word ≡ wordAt bytes place (f .clen) → word ≡ getD (meaningOf bytes .coefficients) pair 0
+      full-word word w =
+          let first = found .words + f .n * f .slen in
+          let at : place ≡ first + pair * f .clen = p ∙ full-place pair (omega arith) in
+          let all = coefficients-stand (pairs (f .n)) refl in
+          w ∙ rw at (sym (word-behind bytes first (pair * f .clen) (f .clen)) ∙ sym (ap (λ (ws : List ℕ). getD ws pair 0) all ∙ getD-words (f .clen) (pairs (f .n)) (drop first bytes) pair h))
+
+    -- so many columns on in a row, the place is as many words on
+    pub full-moved : (size : ℕ) → size ≡ f .clen → (row column : ℕ) → row < column → pairAt (f .n) row column ≤ pairs (f .n) → (place₀ place : ℕ) → place₀ ≡ coefficientAt (meaningOf bytes) found (pairAt (f .n) row (row + 1))
+        → place ≡ place₀ + (column - (row + 1)) * size → place ≡ coefficientAt (meaningOf bytes) found (pairAt (f .n) row column)
+    full-moved size e row column h most place₀ place first moved =
+        let k = column - (row + 1) in
+        let on : pairAt (f .n) row column ≡ pairAt (f .n) row (row + 1) + (column - (row + 1)) = omega arith in
+        let times : (pairAt (f .n) row (row + 1) + k) * f .clen ≡ pairAt (f .n) row (row + 1) * f .clen + k * f .clen = omega arith in
+        moved ∙ rw (e, first, on, full-place (pairAt (f .n) row (row + 1)) (omega arith), full-place (pairAt (f .n) row (row + 1) + k) (omega arith), times) (omega arith)

@@ -1,6 +1,6 @@
 -- The cells that the loops fill, one more each time: the diagonal, the pairs of a row, the rows. Assumes nothing.
-use Prim.Native.Nat.{ℕ, _+_, _*_, _<_, _≤_, min, max}
-use mathlib.Core.Path.{_≡_, refl, _∙_, ap, sym}
+use Prim.Native.Nat.{ℕ, zero, suc, _+_, _-_, _*_, _<_, _≤_, min, max}
+use mathlib.Core.Path.{_≡_, refl, _∙_, ap, sym, subst}
 use mathlib.Core.Bool.{Bool, true, false, _&&_, _||_}
 use mathlib.Core.List.{List}
 use native.Mathlib.Nat.{mul-le-mul-left}
@@ -9,9 +9,11 @@ use borrow.Author.Tests.{eqb-true, eqb-false, ltb-true, ltb-false}
 use lib.Dec.{eqb, ltb}
 use lib.ListN.{length, getD, set}
 use Rattle.matrixreader.specs.declared.walk.Found.{Found}
-use Rattle.matrix.specs.Meaning.{Matrix, sum}
+use Rattle.matrix.specs.Meaning.{Matrix, sum, pairs}
 use Rattle.matrix.specs.Order.{pairAt}
 use Rattle.matrix.specs.Spelling.{meaningOf}
+use Rattle.verdict.proofs.Cases.{either}
+use Rattle.matrix.proofs.Order.{place-below}
 use Rattle.unpack.specs.Arrangement.{expandedWords, expandedMarks}
 use Rattle.unpack.specs.Unpacking.{over}
 use Rattle.unpack.specs.Cells.{Grid, At, Room, diagonal, ofRow, ofRows}
@@ -33,6 +35,21 @@ next-pair n row column h = omega arith
 -- a row's end is the beginning of the next
 pub next-row : (n row : ℕ) → row < n → pairAt n row n ≡ pairAt n (row + 1) (row + 2)
 next-row n row h = omega (arith, mul-le-mul-left row h)
+
+-- a row's pairs are among all of them
+row-pairs : (n row : ℕ) → row + 1 < n → pairAt n row n ≤ pairs n
+row-pairs n row h = let b = place-below n row (n - 1) (omega arith) (omega arith) in omega arith
+
+pub last-pair : (n row : ℕ) → row < n → pairAt n row n ≤ pairs n
+last-pair n zero h = either (ltb 1 n) (λ t. row-pairs n 0 (omega (arith, ltb-true 1 n t))) (λ t. let f = ltb-false 1 n t in omega arith)
+last-pair n (suc row) h =
+    let e : row + 1 ≡ suc row = omega arith in
+    let l : row + 2 ≡ suc row + 1 = omega arith in
+    let next : pairAt n row n ≡ pairAt n (suc row) (suc row + 1) = next-row n row (omega arith) ∙ rw (e, l) in
+    either (ltb (suc row + 1) n) (λ t. row-pairs n (suc row) (ltb-true (suc row + 1) n t))
+    (λ t.
+    let last : suc row + 1 ≡ n = omega (arith, h, ltb-false (suc row + 1) n t) in
+    subst (λ (k : ℕ). pairAt n (suc row) k ≤ pairs n) last (subst (λ (k : ℕ). k ≤ pairs n) next (row-pairs n row (omega arith))))
 
 -- ---- which cells
 

@@ -31,3 +31,8 @@ sum-ones (suc n) (suc i) h = omega (arith, sum-ones n i (omega arith))
 pub sum-full : (number size : ℕ) → sum (replicate number (min 1 size)) * size ≡ number * size
 sum-full number zero = omega (arith, mul-zero (sum (replicate number (min 1 0))))
 sum-full number (suc size) = let one : min 1 (suc size) ≡ 1 = omega arith in rw (one, sum-same number 1) (omega arith)
+
+-- and of the first of them
+pub sum-first-full : (number pair size : ℕ) → pair ≤ number → sum (take pair (replicate number (min 1 size))) * size ≡ pair * size
+sum-first-full number pair zero h = omega (arith, mul-zero (sum (take pair (replicate number (min 1 0)))))
+sum-first-full number pair (suc size) h = let one : min 1 (suc size) ≡ 1 = omega arith in rw (one, sum-ones number pair h)

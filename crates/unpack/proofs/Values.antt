@@ -59,7 +59,7 @@ read-all f number bytes = by (f .clen) refl
     by (suc size) e = let one : min 1 (f .clen) ≡ 1 = omega arith in rw one (read-sent (f .clen) (nought f) number bytes)
 
 -- a word behind a place
-word-behind : (bytes : List ℕ) (from place size : ℕ) → wordAt (drop from bytes) place size ≡ wordAt bytes (from + place) size
+pub word-behind : (bytes : List ℕ) (from place size : ℕ) → wordAt (drop from bytes) place size ≡ wordAt bytes (from + place) size
 word-behind bytes from place size = rw drop-drop
 
 module _ (bytes : List ℕ) where

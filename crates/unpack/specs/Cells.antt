@@ -53,3 +53,9 @@ pub record RowFrom (bytes : List ℕ) (found : Found) (none row : ℕ) (next : N
   pub within : row < meaningOf bytes .fields .n
   pub at : At (meaningOf bytes) found row (row + 1) next
   pub room : Room (meaningOf bytes) words marks
+
+-- before a row of a full matrix, whose coefficients have so many bytes each
+pub record FullRowFrom (bytes : List ℕ) (found : Found) (each row : ℕ) (next : Next) (words marks : List ℕ) : Type 0 where
+  pub from : RowFrom bytes found (nought (meaningOf bytes .fields)) row next words marks
+  pub full : found .fields .cs ≡ false
+  pub length-is : each ≡ found .fields .clen

@@ -1,10 +1,11 @@
 // The cells of the expanded matrix: deviations on the diagonal, each coefficient at both of its places.
-ghost use Prim.Native.Nat.{_+_};
+ghost use Prim.Native.Nat.{_+_, _<_};
+ghost use lib.ListN.{length as count, set};
 ghost use Rattle.verdict.specs.declared.Verdict.the-variants.{Complete};
 ghost use Rattle.matrix.specs.Spelling.{meaningOf};
 ghost use Rattle.unpack.specs.Unpacking.{ExpandedFor};
 ghost use Rattle.unpack.specs.Found.{Whole};
-ghost use Rattle.unpack.specs.Cells.{diagonal, ofRow, ofRows, Grid, At, Room, RowFrom};
+ghost use Rattle.unpack.specs.Cells.{diagonal, ofRow, ofRows, Grid, At, Room, RowFrom, FullRowFrom};
 ghost use mathlib.Core.Path.{_≡_};
 use crate::words::mark_at;
 use crate::words::mark_of;
@@ -39,8 +40,19 @@ fn fill_diagonal(bytes: &[u8], found: Found, words: &mut [u64], marks: &mut [u8]
     }
 }
 
-// The pairs of one row, whose first coefficient is the next.
-fn fill_row(
+// The word and the mark of a pair, at both of its places.
+fn put_pair(words: &mut [u64], marks: &mut [u8], upper: usize, lower: usize, word: u64, mark: u8)
+    requires { ⌜ ((upper < count (now words)) × (lower < count (now words))) × ((upper < count (now marks)) × (lower < count (now marks))) ⌝ }
+    ensures { λ _. ⌜ (now (words .exit) ≡ set (set (now (words .entry)) upper word) lower word) × (now (marks .exit) ≡ set (set (now (marks .entry)) upper mark) lower mark) ⌝ }
+{
+    words[upper] = word;
+    words[lower] = word;
+    marks[upper] = mark;
+    marks[lower] = mark;
+}
+
+// The pairs of one row of a sparse matrix, whose first coefficient is the next.
+fn fill_sparse_row(
     bytes: &[u8],
     found: Found,
     none: u64,
@@ -62,17 +74,82 @@ fn fill_row(
     while column < n {
         let mark = mark_at(bytes, f, pair);
         let word = word_or(bytes, place, length, mark, none);
-        let upper = row * n + column;
-        let lower = column * n + row;
-        words[upper] = word;
-        words[lower] = word;
-        marks[upper] = mark;
-        marks[lower] = mark;
+        put_pair(words, marks, row * n + column, column * n + row, word, mark);
         place += mark as usize * length;
         pair += 1;
         column += 1;
     }
     Next { place, pair }
+}
+
+// And of a full one, whose coefficients have so many bytes each.
+fn fill_full_row(
+    bytes: &[u8],
+    found: Found,
+    length: usize,
+    row: usize,
+    next: Next,
+    words: &mut [u64],
+    marks: &mut [u8],
+) -> Next
+    requires { ⌜ FullRowFrom (now bytes) found length row next (now words) (now marks) ⌝ }
+    ensures { λ r. ⌜ At (meaningOf (now (bytes .entry))) found (row + 1) (row + 2) r ⌝ }
+    ensures { λ _. ⌜ Grid (meaningOf (now (bytes .entry))) (ofRow row (found .fields .n)) (now (words .entry)) (now (marks .entry)) (now (words .exit)) (now (marks .exit)) ⌝ }
+{
+    let n = found.fields.n;
+    let mark = mark_of(length);
+    let pair = next.pair + (n - row - 1);
+    let mut place = next.place;
+    let mut column = row + 1;
+    while column < n {
+        let word = word_at(bytes, place, length);
+        put_pair(words, marks, row * n + column, column * n + row, word, mark);
+        place += length;
+        column += 1;
+    }
+    Next { place, pair }
+}
+
+// Each of the usual lengths is a loop of its own to the compiler.
+fn fill_by_length(
+    bytes: &[u8],
+    found: Found,
+    length: usize,
+    row: usize,
+    next: Next,
+    words: &mut [u64],
+    marks: &mut [u8],
+) -> Next
+    requires { ⌜ FullRowFrom (now bytes) found length row next (now words) (now marks) ⌝ }
+    ensures { λ r. ⌜ At (meaningOf (now (bytes .entry))) found (row + 1) (row + 2) r ⌝ }
+    ensures { λ _. ⌜ Grid (meaningOf (now (bytes .entry))) (ofRow row (found .fields .n)) (now (words .entry)) (now (marks .entry)) (now (words .exit)) (now (marks .exit)) ⌝ }
+{
+    match length {
+        2 => fill_full_row(bytes, found, 2, row, next, words, marks),
+        4 => fill_full_row(bytes, found, 4, row, next, words, marks),
+        8 => fill_full_row(bytes, found, 8, row, next, words, marks),
+        _ => fill_full_row(bytes, found, length, row, next, words, marks),
+    }
+}
+
+// The pairs of one row.
+fn fill_next_row(
+    bytes: &[u8],
+    found: Found,
+    none: u64,
+    row: usize,
+    next: Next,
+    words: &mut [u64],
+    marks: &mut [u8],
+) -> Next
+    requires { ⌜ RowFrom (now bytes) found none row next (now words) (now marks) ⌝ }
+    ensures { λ r. ⌜ At (meaningOf (now (bytes .entry))) found (row + 1) (row + 2) r ⌝ }
+    ensures { λ _. ⌜ Grid (meaningOf (now (bytes .entry))) (ofRow row (found .fields .n)) (now (words .entry)) (now (marks .entry)) (now (words .exit)) (now (marks .exit)) ⌝ }
+{
+    if found.fields.cs {
+        return fill_sparse_row(bytes, found, none, row, next, words, marks);
+    }
+    fill_by_length(bytes, found, found.fields.clen, row, next, words, marks)
 }
 
 // The pairs of all rows.
@@ -88,7 +165,7 @@ fn fill_pairs(bytes: &[u8], found: Found, words: &mut [u64], marks: &mut [u8])
     };
     let mut row = 0;
     while row < f.n {
-        next = fill_row(bytes, found, none, row, next, words, marks);
+        next = fill_next_row(bytes, found, none, row, next, words, marks);
         row += 1;
     }
 }

@@ -6,7 +6,7 @@ ghost use lib.ListN.{length as count, take, drop, replicate};
 ghost use lib.Dec.{ltb};
 ghost use Rattle.verdict.specs.Writing.{put};
 ghost use Rattle.word.specs.Digits.{digits, valueOf};
-ghost use Rattle.word.specs.Bytes.{readOf, Written};
+ghost use Rattle.word.specs.Bytes.{wordAt, readOf, Written};
 use verdict::Reason;
 use verdict::Refusal;
 use verdict::Verdict;
@@ -26,7 +26,7 @@ fn from_place(whole: usize, place: usize) -> usize
 }
 
 // The word's bytes, in the first of eight.
-pub(crate) fn eight_at(bytes: &[u8], place: usize, length: usize) -> [u8; 8]
+fn eight_at(bytes: &[u8], place: usize, length: usize) -> [u8; 8]
     requires { ⌜ (length ≤ 8) × (length ≤ count (now bytes) - place) ⌝ }
     ensures { λ r. ⌜ r ≡ take length (drop place (now (bytes .entry))) ++ replicate (8 - length) 0 ⌝ }
 {
@@ -40,7 +40,7 @@ pub(crate) fn eight_at(bytes: &[u8], place: usize, length: usize) -> [u8; 8]
 }
 
 // The value of the first `length` of eight bytes.
-pub(crate) fn value_of(eight: [u8; 8], length: usize) -> u64
+fn value_of(eight: [u8; 8], length: usize) -> u64
     requires { ⌜ length ≤ 8 ⌝ }
     ensures { λ r. ⌜ r ≡ valueOf 256 (take length eight) ⌝ }
 {
@@ -51,6 +51,27 @@ pub(crate) fn value_of(eight: [u8; 8], length: usize) -> u64
         i += 1;
     }
     value
+}
+
+// The word of `length` bytes at a place where they are.
+pub(crate) fn word_in(bytes: &[u8], place: usize, length: usize) -> u64
+    requires { ⌜ (length ≤ 8) × (length ≤ count (now bytes) - place) ⌝ }
+    ensures { λ r. ⌜ r ≡ wordAt (now (bytes .entry)) place length ⌝ }
+{
+    value_of(eight_at(bytes, place, length), length)
+}
+
+// Each of the usual lengths is one load to the compiler.
+fn word_by_length(bytes: &[u8], place: usize, length: usize) -> u64
+    requires { ⌜ (length ≤ 8) × (length ≤ count (now bytes) - place) ⌝ }
+    ensures { λ r. ⌜ r ≡ wordAt (now (bytes .entry)) place length ⌝ }
+{
+    match length {
+        2 => word_in(bytes, place, 2),
+        4 => word_in(bytes, place, 4),
+        8 => word_in(bytes, place, 8),
+        _ => word_in(bytes, place, length),
+    }
 }
 
 // The word of `length` bytes at a place.
@@ -67,7 +88,7 @@ pub fn read_at(bytes: &[u8], place: usize, length: usize) -> Read
     if there < length {
         return Read::Unfinished(length - there);
     }
-    Read::Word(value_of(eight_at(bytes, place, length), length))
+    Read::Word(word_by_length(bytes, place, length))
 }
 
 // Whether a word fits in so many bytes.

@@ -5,9 +5,8 @@ ghost use lib.ListN.{length as count};
 ghost use lib.Dec.{eqb};
 ghost use Rattle.verdict.specs.Judgement.{judgement};
 ghost use Rattle.word.specs.Many.{wordsIn, bytesFor, manyRows, ReadInto, WrittenOver};
-use crate::bytes::eight_at;
 use crate::bytes::put_at;
-use crate::bytes::value_of;
+use crate::bytes::word_in;
 use verdict::Judged;
 use verdict::Reason;
 use verdict::Refusal;
@@ -43,7 +42,7 @@ fn read_each(bytes: &[u8], length: usize, out: &mut [u64])
     let mut place = 0;
     let mut i = 0;
     while i < out.len() {
-        out[i] = value_of(eight_at(bytes, place, length), length);
+        out[i] = word_in(bytes, place, length);
         place += length;
         i += 1;
     }

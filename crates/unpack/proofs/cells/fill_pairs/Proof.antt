@@ -58,8 +58,8 @@ loop-holds c =
     let s = c .before .before .before .before .before .before .before in
     (omega arith, (first-at (bytes s) (found s) (s .pre .0), rows-none (m s) (now (s .args .words)) (now (s .args .marks))))
 
-fill-row-requires : tie.Need-fill-row-requires Inv-loop μ-loop
-fill-row-requires c κs =
+fill-next-row-requires : tie.Need-fill-next-row-requires Inv-loop μ-loop
+fill-next-row-requires c κs =
     let t = c .before .before in
     let l = t .before .before in
     let s = start l in
@@ -85,7 +85,7 @@ loop-again c =
     let s = start l in
     let row = l .loop .row in
     let further : row + 2 ≡ row + 1 + 1 = omega arith in
-    (omega (arith, t .if1 .taken), (subst (λ (k : ℕ). At (m s) (found s) (row + 1) k (r .fill-row .result)) further (r .fill-row .ensures .0), grid-row (m s) (found s .fields .n) (same s) row (l .loop .inv .1 .1) (r .fill-row .ensures .1)))
+    (omega (arith, t .if1 .taken), (subst (λ (k : ℕ). At (m s) (found s) (row + 1) k (r .fill-next-row .result)) further (r .fill-next-row .ensures .0), grid-row (m s) (found s .fields .n) (same s) row (l .loop .inv .1 .1) (r .fill-next-row .ensures .1)))
 
 same-length : tie.Need-same-length Inv-loop μ-loop
 same-length c = c .before .before .loop .inv .1 .1 .words-filled .same-length
@@ -110,7 +110,7 @@ fill-pairs-spec =
     mul-t9
     add-t10
     loop-holds
-    fill-row-requires
+    fill-next-row-requires
     add-row
     loop-less
     loop-again

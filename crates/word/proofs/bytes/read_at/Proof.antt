@@ -1,14 +1,11 @@
 -- `bytes::read_at` meets its contract: each answer is the one of its tests. Assumes nothing.
 use Prim.Native.Nat.{ℕ, _-_, _<_, _≤_}
-use mathlib.Core.Path.{_∙_, ap}
-use mathlib.Core.List.{List}
+use mathlib.Core.Path.{ap}
 use native.Mathlib.Omega.{arith}
 use borrow.Author.Needs.{needs}
 use borrow.Author.Tests.{lt-ltb, le-ltb}
-use lib.ListN.{length as count, take}
+use lib.ListN.{length as count}
 use Rattle.word.specs.declared.bytes.Read.the-variants.{Word, Unfinished}
-use Rattle.word.specs.Digits.{valueOf}
-use Rattle.word.proofs.Filled.{eight-word}
 use Rattle.word.proofs.bytes.read_at.Statement.{statement}
 use Rattle.word.proofs.bytes.read_at.Tie as tie
 
@@ -27,21 +24,14 @@ returns-2 c =
     let missing : count (a .bytes .now) - a .place < a .length = omega arith in
     simp (le-ltb _ _ (c .before .before .if1 .left), lt-ltb _ _ missing) (ap (λ (there : ℕ). Unfinished (a .length - there)) (c .before .from-place .ensures))
 
-eight-at-requires : tie.Need-eight-at-requires
-eight-at-requires c κs = search needs
-
-value-of-requires : tie.Need-value-of-requires
-value-of-requires c κs = search needs
+word-by-length-requires : tie.Need-word-by-length-requires
+word-by-length-requires c κs = search needs
 
 returns-3 : tie.Need-returns-3
 returns-3 c =
-    let a = c .before .before .before .before .before .before .args in
+    let a = c .before .before .before .before .before .args in
     let there : a .length ≤ count (a .bytes .now) - a .place = omega arith in
-    simp (le-ltb _ _ (c .before .before .before .before .if1 .left), le-ltb _ _ there)
-    (ap Word
-    (c .value-of .ensures
-    ∙ ap (λ (eight : List ℕ). valueOf 256 (take (a .length) eight)) (c .before .eight-at .ensures)
-    ∙ eight-word (a .bytes .now) (a .place) (a .length) there))
+    simp (le-ltb _ _ (c .before .before .before .if1 .left), le-ltb _ _ there) (ap Word (c .word-by-length .ensures))
 
 pub read-at-spec : {M : Type 1} → statement M
 read-at-spec =
@@ -51,6 +41,5 @@ read-at-spec =
     from-place-requires
     sub-t9
     returns-2
-    eight-at-requires
-    value-of-requires
+    word-by-length-requires
     returns-3)

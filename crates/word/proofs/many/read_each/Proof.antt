@@ -1,13 +1,9 @@
 -- `many::read_each` meets its contract. The loop's invariant: the words so far are read, and the place is that of the next. Assumes nothing.
-use Prim.Native.Nat.{ℕ, _+_, _-_, _≤_}
-use mathlib.Core.Path.{_≡_, _∙_, ap}
-use mathlib.Core.List.{List}
+use Prim.Native.Nat.{_+_, _-_, _≤_}
+use mathlib.Core.Path.{_≡_}
 use native.Mathlib.Omega.{arith}
 use borrow.Author.Needs.{needs}
-use lib.ListN.{length as count, take}
-use Rattle.word.specs.Digits.{valueOf}
-use Rattle.word.specs.Bytes.{wordAt}
-use Rattle.word.proofs.Filled.{eight-word}
+use lib.ListN.{length as count}
 use Rattle.word.proofs.Words.{Gathered, gathered-none, gathered-length, gathered-room, gathered-more, gathered-all}
 use Rattle.word.proofs.many.read_each.Statement.{statement}
 use Rattle.word.proofs.many.read_each.Tie as tie
@@ -33,11 +29,8 @@ room c =
     let l = c .before .loop in
     gathered-room (s .args .out .now) (s .args .bytes .now) (s .args .length) (l .place) (l .i) (l .out) (s .pre .1) (c .loop-test .taken) (l .inv)
 
-eight-at-requires : tie.Need-eight-at-requires Inv-loop μ-loop
-eight-at-requires c κs = omega (arith, c .before .before .before .before .pre .0, room c)
-
-value-of-requires : tie.Need-value-of-requires Inv-loop μ-loop
-value-of-requires c κs = search needs
+word-in-requires : tie.Need-word-in-requires Inv-loop μ-loop
+word-in-requires c κs = omega (arith, c .before .before .before .before .pre .0, room c)
 
 mul-out : tie.Need-mul-out Inv-loop μ-loop
 mul-out c = search needs
@@ -46,23 +39,19 @@ slice-write-out : tie.Need-slice-write-out Inv-loop μ-loop
 slice-write-out c = search needs
 
 add-place : tie.Need-add-place Inv-loop μ-loop
-add-place c = record { fits = omega (arith, room (c .before .before)) }
+add-place c = record { fits = omega (arith, room (c .before)) }
 
 add-i : tie.Need-add-i Inv-loop μ-loop
 add-i c = search needs
 
 loop-less : tie.Need-loop-less Inv-loop μ-loop
-loop-less c = omega (arith, kept (c .before .before .before))
+loop-less c = omega (arith, kept (c .before .before))
 
 loop-again : tie.Need-loop-again Inv-loop μ-loop
 loop-again c =
-    let a = c .before .before .before .before .before .before .args in
-    let l = c .before .before .before .loop in
-    let word : c .value-of .result ≡ wordAt (a .bytes .now) (l .place) (a .length) =
-    c .value-of .ensures
-    ∙ ap (λ (eight : List ℕ). valueOf 256 (take (a .length) eight)) (c .before .eight-at .ensures)
-    ∙ eight-word (a .bytes .now) (l .place) (a .length) (omega (arith, room (c .before .before))) in
-    rw word (gathered-more (a .out .now) (a .bytes .now) (a .length) (l .place) (l .i) (l .out) (c .before .before .loop-test .taken) (l .inv))
+    let a = c .before .before .before .before .before .args in
+    let l = c .before .before .loop in
+    rw (c .word-in .ensures) (gathered-more (a .out .now) (a .bytes .now) (a .length) (l .place) (l .i) (l .out) (c .before .loop-test .taken) (l .inv))
 
 same-length : tie.Need-same-length Inv-loop μ-loop
 same-length c = kept (c .before)
@@ -80,8 +69,7 @@ read-each-spec =
     Inv-loop
     μ-loop
     loop-holds
-    eight-at-requires
-    value-of-requires
+    word-in-requires
     mul-out
     slice-write-out
     add-place

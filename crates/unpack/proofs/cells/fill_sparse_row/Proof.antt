@@ -1,4 +1,4 @@
--- `unpack::cells::fill_row` meets its contract. The loop's invariant: the pairs of the row up to `column` are filled in. Assumes nothing.
+-- `unpack::cells::fill_sparse_row` meets its contract. The loop's invariant: the pairs of the row up to `column` are filled in. Assumes nothing.
 use Prim.Native.Nat.{ℕ, _+_, _-_, _*_, _≤_, _<_}
 use mathlib.Core.Path.{_≡_, refl, _∙_, ap, sym, subst}
 use mathlib.Core.List.{List}
@@ -17,8 +17,8 @@ use Rattle.unpack.proofs.Filling.{Small, small, vector-within, coeffici
 use Rattle.unpack.proofs.Squares.{cell-small}
 use Rattle.unpack.proofs.Rows.{next-pair, next-row, cell-within, row-none, grid-pair}
 use borrow.Author.Needs.{needs}
-use Rattle.unpack.proofs.cells.fill_row.Statement.{statement}
-use Rattle.unpack.proofs.cells.fill_row.Tie as tie
+use Rattle.unpack.proofs.cells.fill_sparse_row.Statement.{statement}
+use Rattle.unpack.proofs.cells.fill_sparse_row.Tie as tie
 
 -- the pairs of the row before the column are filled in, and the next coefficient is as many bytes on as they have
 record UpTo (m : Matrix) (row n length : ℕ) (words₀ marks₀ : List ℕ) (place₀ pair₀ : ℕ) (words marks : List ℕ) (place pair column : ℕ) : Type 0 where
@@ -123,70 +123,58 @@ mark-at-requires c κs = let g = start (c .before) in (g .pre .whole .fields, (p
 word-or-requires : tie.Need-word-or-requires Inv-loop μ-loop
 word-or-requires c κs = (bounds (start (c .before .before)) .clen-few, within c)
 
-mul-upper : tie.Need-mul-upper Inv-loop μ-loop
-mul-upper c = omega (arith, upper-few (c .before .before))
+mul-put-pair : tie.Need-mul-put-pair Inv-loop μ-loop
+mul-put-pair c = omega (arith, upper-few (c .before .before .before .before))
 
-add-upper : tie.Need-add-upper Inv-loop μ-loop
-add-upper c = omega (arith, upper-few (c .before .before))
+add-put-pair : tie.Need-add-put-pair Inv-loop μ-loop
+add-put-pair c = omega (arith, upper-few (c .before .before .before .before))
 
-mul-lower : tie.Need-mul-lower Inv-loop μ-loop
-mul-lower c = omega (arith, lower-few (c .before .before))
+mul-put-pair-2 : tie.Need-mul-put-pair-2 Inv-loop μ-loop
+mul-put-pair-2 c = omega (arith, lower-few (c .before .before .before .before))
 
-add-lower : tie.Need-add-lower Inv-loop μ-loop
-add-lower c = omega (arith, lower-few (c .before .before))
+add-put-pair-2 : tie.Need-add-put-pair-2 Inv-loop μ-loop
+add-put-pair-2 c = omega (arith, lower-few (c .before .before .before .before))
 
-mul-words : tie.Need-mul-words Inv-loop μ-loop
-mul-words c = omega (arith, upper-few (c .before .before))
-
-slice-write-words : tie.Need-slice-write-words Inv-loop μ-loop
-slice-write-words c = omega (arith, upper-there (c .before .before) .0)
-
-mul-words-2 : tie.Need-mul-words-2 Inv-loop μ-loop
-mul-words-2 c = omega (arith, lower-few (c .before .before))
-
-slice-write-words-2 : tie.Need-slice-write-words-2 Inv-loop μ-loop
-slice-write-words-2 c = rw length-set (omega (arith, lower-there (c .before .before) .0))
-
-slice-write-marks : tie.Need-slice-write-marks Inv-loop μ-loop
-slice-write-marks c = omega (arith, upper-there (c .before .before) .1)
-
-slice-write-marks-2 : tie.Need-slice-write-marks-2 Inv-loop μ-loop
-slice-write-marks-2 c = rw length-set (omega (arith, lower-there (c .before .before) .1))
+put-pair-requires : tie.Need-put-pair-requires Inv-loop μ-loop
+put-pair-requires c κs = let upper = upper-there (c .before .before .before .before) in let lower = lower-there (c .before .before .before .before) in ((upper .0, lower .0), (upper .1, lower .1))
 
 cast-place : tie.Need-cast-place Inv-loop μ-loop
 cast-place c = search needs
 
 mul-place : tie.Need-mul-place Inv-loop μ-loop
-mul-place c = omega (arith, within (c .before))
+mul-place c = omega (arith, within (c .before .before .before .before .before .before .before .before))
 
 add-place : tie.Need-add-place Inv-loop μ-loop
-add-place c = omega (arith, within (c .before))
+add-place c = omega (arith, within (c .before .before .before .before .before .before .before .before))
 
 add-pair : tie.Need-add-pair Inv-loop μ-loop
-add-pair c = omega (arith, pair-below (c .before .before), bounds (start (c .before .before .before)) .pairs-few)
+add-pair c = omega (arith, pair-below (c .before .before .before .before .before .before .before .before .before), bounds (start (c .before .before .before .before .before .before .before .before .before .before)) .pairs-few)
 
 add-column-2 : tie.Need-add-column-2 Inv-loop μ-loop
 add-column-2 c = search needs
 
 loop-less : tie.Need-loop-less Inv-loop μ-loop
-loop-less c = omega (arith, c .before .before .loop-test .taken)
+loop-less c = omega (arith, c .before .before .before .before .before .before .before .before .before .loop-test .taken)
 
 loop-again : tie.Need-loop-again Inv-loop μ-loop
 loop-again c =
-    let l = c .before .before .before in
+    let w = c .before .before .before .before .before .before .before in
+    let l = w .before .before .before in
     let g = start l in
     let inv = l .loop .inv in
-    let below = pair-below (c .before .before) in
-    let mark = c .before .mark-at in
+    let below = pair-below (w .before .before) in
+    let mark = w .before .mark-at in
+    let put = c .before .before .before .before .put-pair .ensures in
     let next = coefficient-next (bytes g) (found g) (g .pre .whole) (l .loop .pair) (l .loop .place) (mark .result) below (place-is l) (mark .ensures) in
-    let word = coefficient-is (bytes g) (found g) (g .pre .whole) (l .loop .pair) (l .loop .place) (mark .result) below (place-is l) (mark .ensures) (g .args .none) (c .word-or .result) (g .pre .nought-is ∙ ap nought (sym (g .pre .whole .fields))) (c .word-or .ensures) in
+    let word = coefficient-is (bytes g) (found g) (g .pre .whole) (l .loop .pair) (l .loop .place) (mark .result) below (place-is l) (mark .ensures) (g .args .none) (w .word-or .result) (g .pre .nought-is ∙ ap nought (sym (g .pre .whole .fields))) (w .word-or .ensures) in
     record {
       begun = omega (arith, inv .begun);
-      most = omega (arith, c .before .before .loop-test .taken);
+      most = omega (arith, w .before .before .loop-test .taken);
       pair-is = omega (arith, inv .pair-is, next-pair (n g) (row l) (column l) (inv .begun));
       moved = omega (arith, inv .moved, next);
-      filled = grid-pair (m l) (n g) (same g) (g .pre .room) (row l) (column l) (c .word-or .result) (mark .result) (inv .begun) (c .before .before .loop-test .taken)
-          (word ∙ ap (λ (k : ℕ). getD (m l .coefficients) k 0) (inv .pair-is)) (mark .ensures ∙ ap (λ (k : ℕ). getD (m l .marks) k 0) (inv .pair-is)) (inv .filled);
+      filled = rw (put .0, put .1)
+          (grid-pair (m l) (n g) (same g) (g .pre .room) (row l) (column l) (w .word-or .result) (mark .result) (inv .begun) (w .before .before .loop-test .taken)
+          (word ∙ ap (λ (k : ℕ). getD (m l .coefficients) k 0) (inv .pair-is)) (mark .ensures ∙ ap (λ (k : ℕ). getD (m l .marks) k 0) (inv .pair-is)) (inv .filled));
     }
 
 same-length : tie.Need-same-length Inv-loop μ-loop
@@ -205,8 +193,8 @@ returns c =
       subst (λ (k : ℕ). Grid (m l) (ofRow (row l) k) (now (g .args .words)) (now (g .args .marks)) (l .loop .words) (l .loop .marks)) all (l .loop .inv .filled),
     )
 
-pub fill-row-spec : {M : Type 1} → statement M
-fill-row-spec =
+pub fill-sparse-row-spec : {M : Type 1} → statement M
+fill-sparse-row-spec =
     tie.close
     (tie.spec
     Inv-loop
@@ -215,16 +203,11 @@ fill-row-spec =
     loop-holds
     mark-at-requires
     word-or-requires
-    mul-upper
-    add-upper
-    mul-lower
-    add-lower
-    mul-words
-    slice-write-words
-    mul-words-2
-    slice-write-words-2
-    slice-write-marks
-    slice-write-marks-2
+    mul-put-pair
+    add-put-pair
+    mul-put-pair-2
+    add-put-pair-2
+    put-pair-requires
     cast-place
     mul-place
     add-place
