@@ -16,6 +16,7 @@ use Rattle.number.proofs.Octets.{Begun, none as nothing, more as further, begun
 use Rattle.array.specs.Meaning.{product, most}
 use Rattle.array.specs.Spelling.{ArrayPack}
 use Rattle.array.specs.Table.{Field, dims, size, element, processing, limit, positive, number, body, enter, behind, behindEffect, move}
+use Rattle.array.proofs.Products.{Positive, product-positive}
 use Rattle.array.proofs.Keeping.{limit-product}
 
 -- ---- numbers
@@ -118,15 +119,6 @@ reached-body zero w a = (ap length a, bytes-none w a)
 reached-body (suc more) w a = accepted-body more w a
 
 -- ---- sizes
-
--- all of these are 1 or more
-abbrev Positive : List ℕ → Type 0
-Positive sizes = (i : ℕ) → i < length sizes → 1 ≤ getD sizes i 0
-
-product-positive : (sizes : List ℕ) → Positive sizes → 1 ≤ product sizes
-unfolding product
-product-positive [] p = omega arith
-product-positive (s ∷ sizes) p = mul-pos (p 0 (omega arith)) (product-positive sizes (λ i l. p (suc i) (omega arith)))
 
 -- a size keeps the limit where the product of all does
 size-within : (before s after : ℕ) → 1 ≤ before → 1 ≤ after → before * (s * after) ≤ most → s ≤ most / before

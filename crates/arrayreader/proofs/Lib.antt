@@ -1,4 +1,2 @@
-pub mod Walking
-pub mod EightSizes
 pub mod Answers
 pub mod Only

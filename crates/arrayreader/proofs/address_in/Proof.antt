@@ -1,32 +1,43 @@
--- `arrayreader::address_in` meets its contract. The loop's invariant: for any meaning that was found, so many indices of the offset are done. Assumes nothing.
-use Prim.Native.Nat.{_+_, _-_, _*_, _≤_, _<_}
+-- `arrayreader::address_in` meets its contract. The loop's invariant: so many sizes were drawn again, and so many indices of the offset are done. Assumes nothing.
+use Prim.Native.Nat.{suc, _+_, _-_, _*_, _≤_, _<_}
+use mathlib.Core.Path.{_≡_, sym, _∙_}
 use native.Mathlib.Nat.{mul-le-mul-right}
+use native.Mathlib.Numerals.{add-one}
 use native.Mathlib.Omega.{arith}
 use lib.ListN.{getD}
-use Rattle.array.specs.Meaning.{Array, product, most}
-use Rattle.arrayreader.specs.Walk.{Means}
+use denote.Ref.{now}
+use Rattle.array.specs.Meaning.{product, most}
+use Rattle.array.specs.Decoded.{meaningOf}
 use Rattle.array.proofs.Offsets.{count-outside, Begun, begun-none, begun-below, begun-outside, begun-next}
+use Rattle.array.proofs.Products.{product-positive}
+use Rattle.arrayreader.specs.Again.{SizesTo}
 use Rattle.arrayreader.proofs.Answers.{refused-outside, offset-inside}
 use borrow.Author.Needs.{needs}
 use Rattle.arrayreader.proofs.address_in.Statement.{statement}
 use Rattle.arrayreader.proofs.address_in.Tie as tie
 
 abbrev Inv-loop : tie.InvT-loop
-Inv-loop found indices dims sizes offset₀ i₀ offset i = (i ≤ dims) × ((a : Array) → Means a found → Begun (a .sizes) indices i offset)
+Inv-loop bytes dims element indices place₀ offset₀ i₀ place offset i = (i ≤ dims) × SizesTo bytes dims i place × Begun (meaningOf bytes .sizes) indices i offset
 
 abbrev μ-loop : tie.MeasureT-loop
-μ-loop found indices dims sizes offset₀ i₀ offset i = dims - i
+μ-loop bytes dims element indices place₀ offset₀ i₀ place offset i = dims - i
 
 returns : tie.Need-returns Inv-loop μ-loop
-returns c a m =
-    let r = c .before .before .args in
-    refused-outside a (r .indices .now) (count-outside (a .sizes) (r .indices .now) (λ e. omega (arith, m .dims)))
+returns c =
+    let s = c .before .before .before in
+    let r = s .args in
+    let a = meaningOf (now (r .bytes)) in
+    refused-outside a (now (r .indices)) (count-outside (a .sizes) (now (r .indices)) (λ e. c .if1 .taken (e ∙ sym (s .pre .0 .counted))))
 
 loop-holds : tie.Need-loop-holds Inv-loop μ-loop
-loop-holds c = (omega arith, λ a m. begun-none (a .sizes) (c .before .before .before .args .indices .now) (m .elements-least))
+loop-holds c =
+    let s = c .before .before .before in
+    let r = s .args in
+    let a = meaningOf (now (r .bytes)) in
+    (omega arith, s .pre .0, begun-none (a .sizes) (now (r .indices)) (product-positive (a .sizes) (s .pre .0 .lawful .size-least)))
 
 size-at-requires : tie.Need-size-at-requires Inv-loop μ-loop
-size-at-requires c κs = search needs
+size-at-requires c κs = c .before .loop .inv .1
 
 mul-index : tie.Need-mul-index Inv-loop μ-loop
 mul-index c = search needs
@@ -35,35 +46,39 @@ shared-slice-read-index : tie.Need-shared-slice-read-index Inv-loop μ-loop
 shared-slice-read-index c = search needs
 
 returns-2 : tie.Need-returns-2 Inv-loop μ-loop
-returns-2 c a m =
-    let k = c .before .before in
+returns-2 c =
+    let k = c .before .before .before in
     let l = k .before .before .loop in
-    let x = k .before .before .before .before .before .before .args .indices .now in
-    refused-outside a x (begun-outside (a .sizes) x (l .i) (l .offset) (l .inv .1 a m) (omega (arith, m .dims)) (omega arith) (k .size-at .result) (k .size-at .ensures (a .sizes) (m .few) (m .sizes)) (omega arith))
+    let s = k .before .before .before .before .before .before in
+    let a = meaningOf (now (s .args .bytes)) in
+    let x = now (s .args .indices) in
+    refused-outside a x (begun-outside (a .sizes) x (l .i) (l .offset) (l .inv .2) (omega (arith, s .pre .0 .counted)) (omega arith) (k .size-at .result .value) (k .size-at .ensures .0) (c .if2 .taken))
 
--- one index more, for any meaning that was found
-next : (c : tie.Else2 Inv-loop μ-loop) → let k = c .before .before in let l = k .before .before .loop in let r = k .before .before .before .before .before .before .args in
-    (a : Array) → Means a (r .found) → Begun (a .sizes) (r .indices .now) (l .i + 1) (l .offset * k .size-at .result + getD (r .indices .now) (l .i) 0)
-next c a m =
-    let k = c .before .before in
+-- one index more
+next :
+    (c : tie.Else2 Inv-loop μ-loop) → let k = c .before .before .before in let l = k .before .before .loop in let r = k .before .before .before .before .before .before .args in
+    Begun (meaningOf (now (r .bytes)) .sizes) (now (r .indices)) (l .i + 1) (l .offset * k .size-at .result .value + getD (now (r .indices)) (l .i) 0)
+next c =
+    let k = c .before .before .before in
     let l = k .before .before .loop in
-    let x = k .before .before .before .before .before .before .args .indices .now in
-    begun-next (a .sizes) x (l .i) (l .offset) (l .inv .1 a m) (omega (arith, m .dims)) (omega arith) (k .size-at .result) (k .size-at .ensures (a .sizes) (m .few) (m .sizes)) (omega arith)
+    let s = k .before .before .before .before .before .before in
+    begun-next (meaningOf (now (s .args .bytes)) .sizes) (now (s .args .indices)) (l .i) (l .offset) (l .inv .2) (omega (arith, s .pre .0 .counted)) (omega arith) (k .size-at .result .value) (k .size-at .ensures .0) (c .if2 .left)
 
-few : (c : tie.Else2 Inv-loop μ-loop) → let k = c .before .before in let l = k .before .before .loop in let r = k .before .before .before .before .before .before .args in
-    l .offset * k .size-at .result + getD (r .indices .now) (l .i) 0 < most
+few :
+    (c : tie.Else2 Inv-loop μ-loop) → let k = c .before .before .before in let l = k .before .before .loop in let r = k .before .before .before .before .before .before .args in
+    l .offset * k .size-at .result .value + getD (now (r .indices)) (l .i) 0 < most
 few c =
-    let k = c .before .before in
+    let k = c .before .before .before in
     let l = k .before .before .loop in
-    let r = k .before .before .before .before .before .before in
-    let a = r .pre .array in
-    omega (arith, begun-below (a .sizes) (r .args .indices .now) (l .i + 1) (l .offset * k .size-at .result + getD (r .args .indices .now) (l .i) 0) (next c a (r .pre .meant)), r .pre .meant .elements-most)
+    let s = k .before .before .before .before .before .before in
+    let x = now (s .args .indices) in
+    omega (arith, begun-below (meaningOf (now (s .args .bytes)) .sizes) x (l .i + 1) (l .offset * k .size-at .result .value + getD x (l .i) 0) (next c), s .pre .0 .lawful .elements-most)
 
 mul-offset : tie.Need-mul-offset Inv-loop μ-loop
-mul-offset c = omega (arith, few c)
+mul-offset c = omega (arith, few (c .before))
 
 add-offset : tie.Need-add-offset Inv-loop μ-loop
-add-offset c = omega (arith, few c)
+add-offset c = omega (arith, few (c .before))
 
 add-i : tie.Need-add-i Inv-loop μ-loop
 add-i c = search needs
@@ -72,23 +87,24 @@ loop-less : tie.Need-loop-less Inv-loop μ-loop
 loop-less c = search needs
 
 loop-again : tie.Need-loop-again Inv-loop μ-loop
-loop-again c = (omega arith, next c)
+loop-again c =
+    let k = c .before .before .before .before in
+    (omega arith, rw (add-one (k .before .before .loop .i)) (k .size-at .ensures .1), next (c .before))
 
-mul-t9 : tie.Need-mul-t9 Inv-loop μ-loop
-mul-t9 c =
-    let l = c .before .before .loop in
-    let r = c .before .before .before .before .before .before in
-    let m = r .pre .meant in
-    let s = r .pre .array .sizes in
-    let h : l .offset ≤ product s = omega (arith, begun-below s (r .args .indices .now) (l .i) (l .offset) (l .inv .1 (r .pre .array) m)) in
-    let k : l .offset * r .args .found .element ≤ product s * r .pre .array .element = rw (m .element) (mul-le-mul-right (r .pre .array .element) h) in
-    omega (arith, m .bytes-most)
+mul-t10 : tie.Need-mul-t10 Inv-loop μ-loop
+mul-t10 c =
+    let l = c .before .loop in
+    let s = c .before .before .before .before .before in
+    let a = meaningOf (now (s .args .bytes)) in
+    let h : l .offset ≤ product (a .sizes) = omega (arith, begun-below (a .sizes) (now (s .args .indices)) (l .i) (l .offset) (l .inv .2)) in
+    let k : l .offset * s .args .element ≤ product (a .sizes) * a .element = rw (s .pre .1) (mul-le-mul-right (a .element) h) in
+    omega (arith, k, s .pre .0 .lawful .bytes-most)
 
 returns-3 : tie.Need-returns-3 Inv-loop μ-loop
-returns-3 c a m =
-    let l = c .before .before .loop in
-    let r = c .before .before .before .before .before .before .args in
-    offset-inside a (r .indices .now) (l .i) (l .offset) (r .found .element) (l .inv .1 a m) (omega (arith, m .dims)) (omega arith) (m .element)
+returns-3 c =
+    let l = c .before .loop in
+    let s = c .before .before .before .before .before in
+    offset-inside (meaningOf (now (s .args .bytes))) (now (s .args .indices)) (l .i) (l .offset) (s .args .element) (l .inv .2) (omega (arith, s .pre .0 .counted)) (omega arith) (s .pre .1)
 
 pub address-in-spec : {M : Type 1} → statement M
 address-in-spec =
@@ -107,5 +123,5 @@ address-in-spec =
     add-i
     loop-less
     loop-again
-    mul-t9
+    mul-t10
     returns-3)

@@ -1,0 +1,93 @@
+-- What each part of the reader promises: what it drew stands in the bytes, and its answer is the run's.
+use Prim.Native.Nat.{ℕ, suc, _+_, _-_, _*_, _≤_}
+use mathlib.Core.Path.{_≡_}
+use mathlib.Core.Bool.{cond}
+use mathlib.Core.List.{List}
+use lib.ListN.{length, drop}
+use lib.Dec.{ltb}
+use Rattle.verdict.specs.declared.Verdict.{Verdict}
+use Rattle.verdict.specs.declared.Verdict.the-variants.{Complete, Unfinished, Refused}
+use Rattle.number.specs.Front.{front}
+use Rattle.arraywalk.specs.declared.Sized.{Sized}
+use Rattle.arraywalk.specs.declared.Found.{Found}
+use Rattle.arraywalk.specs.declared.Step.{Step}
+use Rattle.arraywalk.specs.declared.Step.the-variants.{Size, Unfinished as StepUnfinished, Refused as StepRefused}
+use Rattle.arraywalk.specs.declared.Walked.{Walked}
+use Rattle.arraywalk.specs.declared.Walked.the-variants.{Whole, Unfinished as WalkedUnfinished, Refused as WalkedRefused}
+use Rattle.array.specs.Meaning.{product, most}
+use Rattle.array.specs.Decoded.{sizesIn, elementIn, meaningOf}
+use Rattle.array.specs.Table.{State, number, size, element, processing, enter}
+use Rattle.array.specs.Machine.{verdictOf, verdictAt, verdictBehind}
+
+-- where the machine stands behind so many of the sizes: before the next one, or before E
+abbrev pub behindSizes : ℕ → ℕ → ℕ → State
+behindSizes dims count p = cond (ltb count dims) (number (size (dims - suc count) p) 0) (number (element p) 0)
+
+-- NDim was drawn, up to a place
+pub record DimsTo (bytes : List ℕ) (dims place : ℕ) : Type 0 where
+  pub some : 1 ≤ dims
+  pub few : dims ≤ 8
+  pub within : place ≤ length bytes
+  pub drawn : front 0 bytes ≡ record { value = dims; behind = drop place bytes }
+  pub leads : verdictOf bytes ≡ verdictAt (number (size (dims - 1) 1) 0) bytes place
+
+-- NDim and so many sizes were drawn
+pub record SizedTo (bytes : List ℕ) (dims count : ℕ) (sized : Sized) : Type 0 where
+  pub some : 1 ≤ dims
+  pub few : dims ≤ 8
+  pub within : sized .place ≤ length bytes
+  pub least : 1 ≤ sized .product
+  pub limited : sized .product ≤ most
+  pub counted : front 0 bytes .value ≡ dims
+  pub multiplied : sized .product ≡ product (sizesIn bytes count .values)
+  pub behind : sizesIn bytes count .behind ≡ drop (sized .place) bytes
+  pub leads : verdictOf bytes ≡ verdictAt (behindSizes dims count (sized .product)) bytes (sized .place)
+
+-- one size more
+abbrev pub StepFrom : List ℕ → ℕ → ℕ → Step → Type 0
+StepFrom bytes dims count (Size sized) = SizedTo bytes dims (suc count) sized
+StepFrom bytes dims count (StepUnfinished missing) = verdictOf bytes ≡ Unfinished missing
+StepFrom bytes dims count (StepRefused refusal) = verdictOf bytes ≡ Refused refusal
+
+-- all sizes and E were drawn, E up to a place
+pub record ElementTo (bytes : List ℕ) (dims : ℕ) (sized : Sized) (each place : ℕ) : Type 0 where
+  pub sizes : SizedTo bytes dims dims sized
+  pub within : place ≤ length bytes
+  pub limited : sized .product * each ≤ most
+  pub valued : elementIn bytes dims .value ≡ each
+  pub leads : verdictOf bytes ≡ verdictAt (number (processing (sized .product * each)) 0) bytes place
+
+-- processing 1 was drawn, up to the start of the array
+pub record ProcessedTo (bytes : List ℕ) (dims : ℕ) (sized : Sized) (each start : ℕ) : Type 0 where
+  pub sizes : SizedTo bytes dims dims sized
+  pub within : start ≤ length bytes
+  pub limited : sized .product * each ≤ most
+  pub valued : elementIn bytes dims .value ≡ each
+  pub leads : verdictOf bytes ≡ verdictBehind (enter (sized .product * each)) bytes start
+
+-- a whole pack was found
+pub record FoundIn (bytes : List ℕ) (found : Found) : Type 0 where
+  pub dims : found .dims ≡ length (meaningOf bytes .sizes)
+  pub element : found .element ≡ meaningOf bytes .element
+  pub start : found .length ≡ found .start + product (meaningOf bytes .sizes) * meaningOf bytes .element
+  pub said : verdictOf bytes ≡ Complete (found .length)
+
+abbrev pub WalkFrom : List ℕ → Walked → Type 0
+WalkFrom bytes (Whole found) = FoundIn bytes found
+WalkFrom bytes (WalkedUnfinished missing) = verdictOf bytes ≡ Unfinished missing
+WalkFrom bytes (WalkedRefused refusal) = verdictOf bytes ≡ Refused refusal
+
+-- of a complete pack: NDim and E of its meaning, and its array begins so many bytes before its end, which is its length
+abbrev pub foundOf : List ℕ → ℕ → Found
+foundOf bytes n =
+    let a = meaningOf bytes in
+    record { dims = length (a .sizes); element = a .element; start = n - product (a .sizes) * a .element; length = n }
+
+-- what a walk answers: what it finds of a complete pack, else the verdict
+abbrev pub walkedFor : List ℕ → Verdict → Walked
+walkedFor bytes (Complete n) = Whole (foundOf bytes n)
+walkedFor bytes (Unfinished missing) = WalkedUnfinished missing
+walkedFor bytes (Refused refusal) = WalkedRefused refusal
+
+abbrev pub walkedOf : List ℕ → Walked
+walkedOf bytes = walkedFor bytes (verdictOf bytes)

@@ -1,0 +1,206 @@
+// One pass over the numbers of an array pack: what was found of a whole one, or why there is none. The array itself is not looked at.
+ghost use mathlib.Core.Path.{_≡_};
+ghost use mathlib.Core.Logic.{_≢_};
+ghost use Prim.Native.Nat.{ℕ, _+_, _/_, _≤_, _<_};
+ghost use lib.ListN.{length};
+ghost use Rattle.verdict.specs.Machine.{bad};
+ghost use Rattle.number.specs.Draw.{drawAt};
+ghost use Rattle.number.specs.declared.Drawn.the-variants.{Number};
+ghost use Rattle.array.specs.Meaning.{most};
+ghost use Rattle.array.specs.Table.{number, processing, move};
+ghost use Rattle.arraywalk.specs.Walk.{DimsTo, SizedTo, StepFrom, ElementTo, ProcessedTo, WalkFrom, walkedOf};
+use number::Drawn;
+use number::draw_from;
+use verdict::Reason;
+use verdict::Refusal;
+
+// The greatest product of sizes, and of sizes and E.
+const MOST: usize = 32768;
+
+// A whole pack: NDim, E, the place of the array's first byte, the length.
+pub struct Found {
+    pub dims: usize,
+    pub element: usize,
+    pub start: usize,
+    pub length: usize,
+}
+
+pub enum Walked {
+    Whole(Found),
+    Unfinished(usize),
+    Refused(Refusal),
+}
+
+// Some sizes drawn: the place behind them, their product.
+pub(crate) struct Sized {
+    pub place: usize,
+    pub product: usize,
+}
+
+pub(crate) enum Step {
+    Size(Sized),
+    Unfinished(usize),
+    Refused(Refusal),
+}
+
+// A number of one octet that keeps the limit behind a product, which takes no division; 128 where there is none.
+fn short(bytes: &[u8], place: usize, positive: bool, product: usize) -> usize
+    requires { ⌜ (1 ≤ product) × (product ≤ most) ⌝ }
+    ensures { λ r. ⌜ (r < 128 → (place < length (now (bytes .entry))) × (Number r (place + 1) ≡ drawAt (now (bytes .entry)) place positive (most / product))) ⌝ }
+{
+    if bytes.len() <= place {
+        return 128;
+    }
+    let octet = bytes[place] as usize;
+    if 128 <= octet {
+        return 128;
+    }
+    if MOST < product * octet {
+        return 128;
+    }
+    if 0 < octet {
+        return octet;
+    }
+    if positive {
+        return 128;
+    }
+    octet
+}
+
+// A number that keeps the limit behind a product.
+fn draw_behind(bytes: &[u8], place: usize, positive: bool, product: usize) -> Drawn
+    requires { ⌜ (1 ≤ product) × (product ≤ most) ⌝ }
+    ensures { λ r. ⌜ r ≡ drawAt (now (bytes .entry)) place positive (most / product) ⌝ }
+{
+    let value = short(bytes, place, positive, product);
+    if value < 128 {
+        return Drawn::Number {
+            value: value as u64,
+            next: place + 1,
+        };
+    }
+    let limit = MOST / product;
+    draw_from(bytes, place, positive, limit as u64)
+}
+
+// One more size behind the first `count`.
+fn next_size(bytes: &[u8], sized: Sized, count: usize, dims: usize) -> Step
+    requires { ⌜ SizedTo (now bytes) dims count sized × (count < dims) ⌝ }
+    ensures { λ r. ⌜ StepFrom (now (bytes .entry)) dims count r ⌝ }
+{
+    let drawn = draw_behind(bytes, sized.place, true, sized.product);
+    match drawn {
+        Drawn::Number { value, next } => Step::Size(Sized {
+            place: next,
+            product: sized.product * value as usize,
+        }),
+        Drawn::Cut(_) => Step::Unfinished(dims - count + 2),
+        Drawn::Refused(refusal) => Step::Refused(refusal),
+    }
+}
+
+// Behind processing, which ends at `start`.
+fn from_array(bytes: &[u8], dims: usize, sized: Sized, element: usize, start: usize) -> Walked
+    requires { ⌜ ProcessedTo (now bytes) dims sized element start ⌝ }
+    ensures { λ r. ⌜ WalkFrom (now (bytes .entry)) r ⌝ }
+{
+    let total = sized.product * element;
+    let length = start + total;
+    if bytes.len() < length {
+        return Walked::Unfinished(length - bytes.len());
+    }
+    Walked::Whole(Found {
+        dims,
+        element,
+        start,
+        length,
+    })
+}
+
+// Why an octet that is not 1 is refused as processing.
+fn processing_reason(octet: u8) -> Reason
+    ensures { λ r. ⌜ (octet ≢ 1 → (total : ℕ) → move (number (processing total) 0) octet ≡ bad r) ⌝ }
+{
+    if octet == 0 {
+        return Reason::Zero;
+    }
+    if octet == 0x80 {
+        return Reason::PaddedNumber;
+    }
+    Reason::Processing
+}
+
+// Behind E, which ends at `place`.
+fn from_processing(bytes: &[u8], dims: usize, sized: Sized, element: usize, place: usize) -> Walked
+    requires { ⌜ ElementTo (now bytes) dims sized element place ⌝ }
+    ensures { λ r. ⌜ WalkFrom (now (bytes .entry)) r ⌝ }
+{
+    if bytes.len() <= place {
+        return Walked::Unfinished(1 + sized.product * element);
+    }
+    let octet = bytes[place];
+    if octet == 1 {
+        return from_array(bytes, dims, sized, element, place + 1);
+    }
+    Walked::Refused(Refusal {
+        reason: processing_reason(octet),
+        place,
+    })
+}
+
+// Behind the sizes.
+fn from_element(bytes: &[u8], dims: usize, sized: Sized) -> Walked
+    requires { ⌜ SizedTo (now bytes) dims dims sized ⌝ }
+    ensures { λ r. ⌜ WalkFrom (now (bytes .entry)) r ⌝ }
+{
+    let product = sized.product;
+    let drawn = draw_behind(bytes, sized.place, false, product);
+    match drawn {
+        Drawn::Number { value, next } => from_processing(bytes, dims, sized, value as usize, next),
+        Drawn::Cut(begun) => Walked::Unfinished(2 + product * (begun as usize * 128)),
+        Drawn::Refused(refusal) => Walked::Refused(refusal),
+    }
+}
+
+// Behind NDim, which ends at `place`.
+fn from_sizes(bytes: &[u8], dims: usize, place: usize) -> Walked
+    requires { ⌜ DimsTo (now bytes) dims place ⌝ }
+    ensures { λ r. ⌜ WalkFrom (now (bytes .entry)) r ⌝ }
+{
+    let mut sized = Sized { place, product: 1 };
+    let mut count = 0;
+    while count < dims {
+        let step = next_size(bytes, sized, count, dims);
+        match step {
+            Step::Size(next) => {
+                sized = next;
+                count += 1;
+            }
+            Step::Unfinished(missing) => {
+                return Walked::Unfinished(missing);
+            }
+            Step::Refused(refusal) => {
+                return Walked::Refused(refusal);
+            }
+        }
+    }
+    from_element(bytes, dims, sized)
+}
+
+fn walk(bytes: &[u8]) -> Walked
+    ensures { λ r. ⌜ WalkFrom (now (bytes .entry)) r ⌝ }
+{
+    let drawn = draw_from(bytes, 0, true, 8);
+    match drawn {
+        Drawn::Number { value, next } => from_sizes(bytes, value as usize, next),
+        Drawn::Cut(_) => Walked::Unfinished(4),
+        Drawn::Refused(refusal) => Walked::Refused(refusal),
+    }
+}
+
+// What a walk over the bytes finds, for callers that read the sizes themselves.
+pub fn found_in(bytes: &[u8]) -> Walked
+    ensures { λ r. ⌜ r ≡ walkedOf (now (bytes .entry)) ⌝ }
+{
+    walk(bytes)
+}
