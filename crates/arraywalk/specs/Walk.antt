@@ -9,9 +9,11 @@ use Rattle.verdict.specs.declared.Verdict.{Verdict}
 use Rattle.verdict.specs.declared.Verdict.the-variants.{Complete, Unfinished, Refused}
 use Rattle.number.specs.Front.{front}
 use Rattle.arraywalk.specs.declared.Sized.{Sized}
+use Rattle.arraywalk.specs.declared.Sizing.{Sizing}
+use Rattle.arraywalk.specs.declared.Sizing.the-variants.{To, Unfinished as SizingUnfinished, Refused as SizingRefused}
+use Rattle.arraywalk.specs.declared.Heading.{Heading}
+use Rattle.arraywalk.specs.declared.Heading.the-variants.{To as HeadingTo, Unfinished as HeadingUnfinished, Refused as HeadingRefused}
 use Rattle.arraywalk.specs.declared.Found.{Found}
-use Rattle.arraywalk.specs.declared.Step.{Step}
-use Rattle.arraywalk.specs.declared.Step.the-variants.{Size, Unfinished as StepUnfinished, Refused as StepRefused}
 use Rattle.arraywalk.specs.declared.Walked.{Walked}
 use Rattle.arraywalk.specs.declared.Walked.the-variants.{Whole, Unfinished as WalkedUnfinished, Refused as WalkedRefused}
 use Rattle.array.specs.Meaning.{product, most}
@@ -43,11 +45,11 @@ pub record SizedTo (bytes : List ℕ) (dims count : ℕ) (sized : Sized) : Type 
   pub behind : sizesIn bytes count .behind ≡ drop (sized .place) bytes
   pub leads : verdictOf bytes ≡ verdictAt (behindSizes dims count (sized .product)) bytes (sized .place)
 
--- one size more
-abbrev pub StepFrom : List ℕ → ℕ → ℕ → Step → Type 0
-StepFrom bytes dims count (Size sized) = SizedTo bytes dims (suc count) sized
-StepFrom bytes dims count (StepUnfinished missing) = verdictOf bytes ≡ Unfinished missing
-StepFrom bytes dims count (StepRefused refusal) = verdictOf bytes ≡ Refused refusal
+-- all sizes were drawn
+abbrev pub SizingFrom : List ℕ → ℕ → Sizing → Type 0
+SizingFrom bytes dims (To sized) = SizedTo bytes dims dims sized
+SizingFrom bytes dims (SizingUnfinished missing) = verdictOf bytes ≡ Unfinished missing
+SizingFrom bytes dims (SizingRefused refusal) = verdictOf bytes ≡ Refused refusal
 
 -- all sizes and E were drawn, E up to a place
 pub record ElementTo (bytes : List ℕ) (dims : ℕ) (sized : Sized) (each place : ℕ) : Type 0 where
@@ -64,6 +66,11 @@ pub record ProcessedTo (bytes : List ℕ) (dims : ℕ) (sized : Sized) (each sta
   pub limited : sized .product * each ≤ most
   pub valued : elementIn bytes dims .value ≡ each
   pub leads : verdictOf bytes ≡ verdictBehind (enter (sized .product * each)) bytes start
+
+abbrev pub HeadingFrom : List ℕ → Sized → Heading → Type 0
+HeadingFrom bytes sized (HeadingTo dims each start) = ProcessedTo bytes dims sized each start
+HeadingFrom bytes sized (HeadingUnfinished missing) = verdictOf bytes ≡ Unfinished missing
+HeadingFrom bytes sized (HeadingRefused refusal) = verdictOf bytes ≡ Refused refusal
 
 -- a whole pack was found
 pub record FoundIn (bytes : List ℕ) (found : Found) : Type 0 where

@@ -8,7 +8,7 @@ ghost use Rattle.number.specs.Draw.{drawAt};
 ghost use Rattle.number.specs.declared.Drawn.the-variants.{Number};
 ghost use Rattle.array.specs.Meaning.{most};
 ghost use Rattle.array.specs.Table.{number, processing, move};
-ghost use Rattle.arraywalk.specs.Walk.{DimsTo, SizedTo, StepFrom, ElementTo, ProcessedTo, WalkFrom, walkedOf};
+ghost use Rattle.arraywalk.specs.Walk.{DimsTo, SizedTo, SizingFrom, ElementTo, ProcessedTo, HeadingFrom, WalkFrom, walkedOf};
 use number::Drawn;
 use number::draw_from;
 use verdict::Reason;
@@ -37,8 +37,20 @@ pub(crate) struct Sized {
     pub product: usize,
 }
 
-pub(crate) enum Step {
-    Size(Sized),
+// All sizes drawn, or the verdict in them.
+pub(crate) enum Sizing {
+    To(Sized),
+    Unfinished(usize),
+    Refused(Refusal),
+}
+
+// All numbers drawn: NDim, E and the place behind processing; or the verdict in them.
+pub(crate) enum Heading {
+    To {
+        dims: usize,
+        element: usize,
+        start: usize,
+    },
     Unfinished(usize),
     Refused(Refusal),
 }
@@ -83,23 +95,84 @@ fn draw_behind(bytes: &[u8], place: usize, positive: bool, product: usize) -> Dr
     draw_from(bytes, place, positive, limit as u64)
 }
 
-// One more size behind the first `count`.
-fn next_size(bytes: &[u8], sized: Sized, count: usize, dims: usize) -> Step
-    requires { ⌜ SizedTo (now bytes) dims count sized × (count < dims) ⌝ }
-    ensures { λ r. ⌜ StepFrom (now (bytes .entry)) dims count r ⌝ }
+// The sizes behind NDim, which ends at `place`.
+fn draw_sizes(bytes: &[u8], dims: usize, place: usize) -> Sizing
+    requires { ⌜ DimsTo (now bytes) dims place ⌝ }
+    ensures { λ r. ⌜ SizingFrom (now (bytes .entry)) dims r ⌝ }
 {
-    let drawn = draw_behind(bytes, sized.place, true, sized.product);
+    let mut sized = Sized { place, product: 1 };
+    let mut count = 0;
+    while count < dims {
+        let drawn = draw_behind(bytes, sized.place, true, sized.product);
+        match drawn {
+            Drawn::Number { value, next } => {
+                sized = Sized {
+                    place: next,
+                    product: sized.product * value as usize,
+                };
+                count += 1;
+            }
+            Drawn::Cut(_) => {
+                return Sizing::Unfinished(dims - count + 2);
+            }
+            Drawn::Refused(refusal) => {
+                return Sizing::Refused(refusal);
+            }
+        }
+    }
+    Sizing::To(sized)
+}
+
+// Why an octet that is not 1 is refused as processing.
+fn processing_reason(octet: u8) -> Reason
+    ensures { λ r. ⌜ (octet ≢ 1 → (total : ℕ) → move (number (processing total) 0) octet ≡ bad r) ⌝ }
+{
+    if octet == 0 {
+        return Reason::Zero;
+    }
+    if octet == 0x80 {
+        return Reason::PaddedNumber;
+    }
+    Reason::Processing
+}
+
+// Processing behind E, which ends at `place`.
+fn past_processing(bytes: &[u8], dims: usize, sized: Sized, element: usize, place: usize) -> Heading
+    requires { ⌜ ElementTo (now bytes) dims sized element place ⌝ }
+    ensures { λ r. ⌜ HeadingFrom (now (bytes .entry)) sized r ⌝ }
+{
+    if bytes.len() <= place {
+        return Heading::Unfinished(1 + sized.product * element);
+    }
+    let octet = bytes[place];
+    if octet == 1 {
+        return Heading::To {
+            dims,
+            element,
+            start: place + 1,
+        };
+    }
+    Heading::Refused(Refusal {
+        reason: processing_reason(octet),
+        place,
+    })
+}
+
+// E and processing behind the sizes.
+fn draw_element(bytes: &[u8], dims: usize, sized: Sized) -> Heading
+    requires { ⌜ SizedTo (now bytes) dims dims sized ⌝ }
+    ensures { λ r. ⌜ HeadingFrom (now (bytes .entry)) sized r ⌝ }
+{
+    let product = sized.product;
+    let drawn = draw_behind(bytes, sized.place, false, product);
     match drawn {
-        Drawn::Number { value, next } => Step::Size(Sized {
-            place: next,
-            product: sized.product * value as usize,
-        }),
-        Drawn::Cut(_) => Step::Unfinished(dims - count + 2),
-        Drawn::Refused(refusal) => Step::Refused(refusal),
+        Drawn::Number { value, next } => past_processing(bytes, dims, sized, value as usize, next),
+        Drawn::Cut(begun) => Heading::Unfinished(2 + product * (begun as usize * 128)),
+        Drawn::Refused(refusal) => Heading::Refused(refusal),
     }
 }
 
-// Behind processing, which ends at `start`.
+// The array behind processing, which ends at `start`.
 fn from_array(bytes: &[u8], dims: usize, sized: Sized, element: usize, start: usize) -> Walked
     requires { ⌜ ProcessedTo (now bytes) dims sized element start ⌝ }
     ensures { λ r. ⌜ WalkFrom (now (bytes .entry)) r ⌝ }
@@ -117,48 +190,20 @@ fn from_array(bytes: &[u8], dims: usize, sized: Sized, element: usize, start: us
     })
 }
 
-// Why an octet that is not 1 is refused as processing.
-fn processing_reason(octet: u8) -> Reason
-    ensures { λ r. ⌜ (octet ≢ 1 → (total : ℕ) → move (number (processing total) 0) octet ≡ bad r) ⌝ }
-{
-    if octet == 0 {
-        return Reason::Zero;
-    }
-    if octet == 0x80 {
-        return Reason::PaddedNumber;
-    }
-    Reason::Processing
-}
-
-// Behind E, which ends at `place`.
-fn from_processing(bytes: &[u8], dims: usize, sized: Sized, element: usize, place: usize) -> Walked
-    requires { ⌜ ElementTo (now bytes) dims sized element place ⌝ }
-    ensures { λ r. ⌜ WalkFrom (now (bytes .entry)) r ⌝ }
-{
-    if bytes.len() <= place {
-        return Walked::Unfinished(1 + sized.product * element);
-    }
-    let octet = bytes[place];
-    if octet == 1 {
-        return from_array(bytes, dims, sized, element, place + 1);
-    }
-    Walked::Refused(Refusal {
-        reason: processing_reason(octet),
-        place,
-    })
-}
-
 // Behind the sizes.
 fn from_element(bytes: &[u8], dims: usize, sized: Sized) -> Walked
     requires { ⌜ SizedTo (now bytes) dims dims sized ⌝ }
     ensures { λ r. ⌜ WalkFrom (now (bytes .entry)) r ⌝ }
 {
-    let product = sized.product;
-    let drawn = draw_behind(bytes, sized.place, false, product);
-    match drawn {
-        Drawn::Number { value, next } => from_processing(bytes, dims, sized, value as usize, next),
-        Drawn::Cut(begun) => Walked::Unfinished(2 + product * (begun as usize * 128)),
-        Drawn::Refused(refusal) => Walked::Refused(refusal),
+    let heading = draw_element(bytes, dims, sized);
+    match heading {
+        Heading::To {
+            dims: count,
+            element,
+            start,
+        } => from_array(bytes, count, sized, element, start),
+        Heading::Unfinished(missing) => Walked::Unfinished(missing),
+        Heading::Refused(refusal) => Walked::Refused(refusal),
     }
 }
 
@@ -167,34 +212,11 @@ fn from_sizes(bytes: &[u8], dims: usize, place: usize) -> Walked
     requires { ⌜ DimsTo (now bytes) dims place ⌝ }
     ensures { λ r. ⌜ WalkFrom (now (bytes .entry)) r ⌝ }
 {
-    let mut sized = Sized { place, product: 1 };
-    let mut count = 0;
-    while count < dims {
-        let step = next_size(bytes, sized, count, dims);
-        match step {
-            Step::Size(next) => {
-                sized = next;
-                count += 1;
-            }
-            Step::Unfinished(missing) => {
-                return Walked::Unfinished(missing);
-            }
-            Step::Refused(refusal) => {
-                return Walked::Refused(refusal);
-            }
-        }
-    }
-    from_element(bytes, dims, sized)
-}
-
-fn walk(bytes: &[u8]) -> Walked
-    ensures { λ r. ⌜ WalkFrom (now (bytes .entry)) r ⌝ }
-{
-    let drawn = draw_from(bytes, 0, true, 8);
-    match drawn {
-        Drawn::Number { value, next } => from_sizes(bytes, value as usize, next),
-        Drawn::Cut(_) => Walked::Unfinished(4),
-        Drawn::Refused(refusal) => Walked::Refused(refusal),
+    let sizing = draw_sizes(bytes, dims, place);
+    match sizing {
+        Sizing::To(sized) => from_element(bytes, dims, sized),
+        Sizing::Unfinished(missing) => Walked::Unfinished(missing),
+        Sizing::Refused(refusal) => Walked::Refused(refusal),
     }
 }
 
@@ -202,5 +224,10 @@ fn walk(bytes: &[u8]) -> Walked
 pub fn found_in(bytes: &[u8]) -> Walked
     ensures { λ r. ⌜ r ≡ walkedOf (now (bytes .entry)) ⌝ }
 {
-    walk(bytes)
+    let drawn = draw_from(bytes, 0, true, 8);
+    match drawn {
+        Drawn::Number { value, next } => from_sizes(bytes, value as usize, next),
+        Drawn::Cut(_) => Walked::Unfinished(4),
+        Drawn::Refused(refusal) => Walked::Refused(refusal),
+    }
 }

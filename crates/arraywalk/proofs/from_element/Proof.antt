@@ -1,93 +1,49 @@
--- `arraywalk::from_element` meets its contract: E is drawn behind the sizes, or the bytes are cut or refused in it. Assumes nothing.
-use Prim.Native.Nat.{_*_, _/_, _≤_}
-use mathlib.Core.Path.{_≡_, sym, _∙_}
-use mathlib.Core.Bool.{false}
-use native.Mathlib.Omega.{arith}
+-- `arraywalk::from_element` meets its contract: the walk goes on behind processing, or ends before it. Assumes nothing.
+use mathlib.Core.Path.{_≡_, subst}
 use denote.Ref.{now}
 use borrow.Author.Needs.{needs}
-use Rattle.verdict.specs.Says.{Bytes}
-use Rattle.number.specs.declared.Drawn.{Drawn}
-use Rattle.number.specs.Draw.{drawAt}
-use Rattle.array.specs.Meaning.{most}
-use Rattle.arraywalk.proofs.Walking.{element-drawn, element-cut, element-begun, element-refused}
+use Rattle.arraywalk.specs.declared.Heading.{Heading}
+use Rattle.arraywalk.specs.Walk.{HeadingFrom}
 use Rattle.arraywalk.proofs.from_element.Statement.{statement}
 use Rattle.arraywalk.proofs.from_element.Tie as tie
 
-bytes-there : (c : tie.After-shared-slice-known) → Bytes (now (c .before .args .bytes))
-bytes-there c = λ i. c .shared-slice-known .given i .fits
+-- the case that was met says what was drawn
+heading-is : (c : tie.After-draw-element) (d : Heading) → c .draw-element .result ≡ d → let a = c .before .before .args in HeadingFrom (now (a .bytes)) (a .sized) d
+heading-is c d e = let a = c .before .before .args in subst (HeadingFrom (now (a .bytes)) (a .sized)) e (c .draw-element .ensures)
 
--- the case that was met is what drawing finds
-drawn-is : (c : tie.After-draw-behind) (d : Drawn) → c .draw-behind .result ≡ d → let a = c .before .before .args in d ≡ drawAt (now (a .bytes)) (a .sized .place) false (most / a .sized .product)
-drawn-is c d e = sym e ∙ c .draw-behind .ensures
+draw-element-requires : tie.Need-draw-element-requires
+draw-element-requires c κs = c .before .pre
 
--- what is begun of E is small
-begun : (c : tie.After-drawn2) → let v = c .drawn2 .given .0 .0 in (v * 128 ≤ most) × (c .before .before .before .before .args .sized .product * (v * 128) ≤ most)
-begun c =
-    let w = c .before .before in
-    let s = w .before .before in
-    let a = s .args in
-    element-begun (now (a .bytes)) (bytes-there (w .before)) (a .dims) (a .sized) (s .pre) (c .drawn2 .given .0 .0) (drawn-is w _ (c .drawn2 .given .1))
+enum-known-heading : tie.Need-enum-known-heading
+enum-known-heading c = search needs
 
-draw-behind-requires : tie.Need-draw-behind-requires
-draw-behind-requires c κs = let z = c .before .pre in (z .least, z .limited)
+from-array-requires : tie.Need-from-array-requires
+from-array-requires c κs = heading-is (c .before .before .before) _ (c .before .heading .given .1)
 
-enum-known-drawn : tie.Need-enum-known-drawn
-enum-known-drawn c = search needs
+enum-known-heading-2 : tie.Need-enum-known-heading-2
+enum-known-heading-2 c = search needs
 
-from-processing-requires : tie.Need-from-processing-requires
-from-processing-requires c κs =
-    let d = c .before in
-    let w = d .before .before in
-    let s = w .before .before in
-    let a = s .args in
-    element-drawn (now (a .bytes)) (bytes-there (w .before)) (a .dims) (a .sized) (s .pre) (d .drawn .given .0 .0) (d .drawn .given .0 .1 .0) (drawn-is w _ (d .drawn .given .1))
-
-enum-known-drawn-2 : tie.Need-enum-known-drawn-2
-enum-known-drawn-2 c = search needs
-
-mul-t13 : tie.Need-mul-t13
-mul-t13 c = omega (arith, begun (c .before) .0)
-
-mul-t14 : tie.Need-mul-t14
-mul-t14 c = omega (arith, begun (c .before) .1)
-
-add-t15 : tie.Need-add-t15
-add-t15 c = omega (arith, begun (c .before) .1)
-
-enum-known-drawn-3 : tie.Need-enum-known-drawn-3
-enum-known-drawn-3 c = search needs
+enum-known-heading-3 : tie.Need-enum-known-heading-3
+enum-known-heading-3 c = search needs
 
 returns : tie.Need-returns
 returns c = search needs
 
 returns-2 : tie.Need-returns-2
-returns-2 c =
-    let d = c .before in
-    let w = d .before .before in
-    let s = w .before .before in
-    let a = s .args in
-    element-cut (now (a .bytes)) (bytes-there (w .before)) (a .dims) (a .sized) (s .pre) (d .drawn2 .given .0 .0) (drawn-is w _ (d .drawn2 .given .1))
+returns-2 c = heading-is (c .before .before .before) _ (c .before .heading2 .given .1)
 
 returns-3 : tie.Need-returns-3
-returns-3 c =
-    let d = c .before in
-    let w = d .before .before in
-    let s = w .before .before in
-    let a = s .args in
-    element-refused (now (a .bytes)) (bytes-there (w .before)) (a .dims) (a .sized) (s .pre) (d .drawn3 .given .0 .0) (drawn-is w _ (d .drawn3 .given .1))
+returns-3 c = heading-is (c .before .before .before) _ (c .before .heading3 .given .1)
 
 pub from-element-spec : {M : Type 1} → statement M
 from-element-spec =
     tie.close
     (tie.spec
-    draw-behind-requires
-    enum-known-drawn
-    from-processing-requires
-    enum-known-drawn-2
-    mul-t13
-    mul-t14
-    add-t15
-    enum-known-drawn-3
+    draw-element-requires
+    enum-known-heading
+    from-array-requires
+    enum-known-heading-2
+    enum-known-heading-3
     returns
     returns-2
     returns-3)

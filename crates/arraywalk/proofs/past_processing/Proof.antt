@@ -1,10 +1,10 @@
--- `arraywalk::from_processing` meets its contract: processing is one octet, which is 1, missing or refused. Assumes nothing.
+-- `arraywalk::past_processing` meets its contract: processing is one octet, which is 1, missing or refused. Assumes nothing.
 use Prim.Native.Nat.{_*_}
 use denote.Ref.{now}
 use borrow.Author.Needs.{needs}
 use Rattle.arraywalk.proofs.Walking.{processing-cut, processing-one, processing-refused}
-use Rattle.arraywalk.proofs.from_processing.Statement.{statement}
-use Rattle.arraywalk.proofs.from_processing.Tie as tie
+use Rattle.arraywalk.proofs.past_processing.Statement.{statement}
+use Rattle.arraywalk.proofs.past_processing.Tie as tie
 
 mul-t9 : tie.Need-mul-t9
 mul-t9 c = search needs
@@ -21,17 +21,14 @@ returns c =
 shared-slice-read-octet : tie.Need-shared-slice-read-octet
 shared-slice-read-octet c = search needs
 
-add-from-array : tie.Need-add-from-array
-add-from-array c = search needs
+add-t13 : tie.Need-add-t13
+add-t13 c = search needs
 
-from-array-requires : tie.Need-from-array-requires
-from-array-requires c κs =
+returns-2 : tie.Need-returns-2
+returns-2 c =
     let s = c .before .before .before .before in
     let a = s .args in
     processing-one (now (a .bytes)) (a .dims) (a .sized) (a .element) (a .place) (s .pre) (c .before .before .if1 .left) (c .if2 .taken)
-
-returns-2 : tie.Need-returns-2
-returns-2 c = search needs
 
 processing-reason-requires : tie.Need-processing-reason-requires
 processing-reason-requires c κs = search needs
@@ -43,16 +40,15 @@ returns-3 c =
     let a = s .args in
     processing-refused (now (a .bytes)) (a .dims) (a .sized) (a .element) (a .place) (s .pre) (e .before .before .if1 .left) (c .processing-reason .result) (c .processing-reason .ensures (e .if2 .left) (a .sized .product * a .element))
 
-pub from-processing-spec : {M : Type 1} → statement M
-from-processing-spec =
+pub past-processing-spec : {M : Type 1} → statement M
+past-processing-spec =
     tie.close
     (tie.spec
     mul-t9
     add-t10
     returns
     shared-slice-read-octet
-    add-from-array
-    from-array-requires
+    add-t13
     returns-2
     processing-reason-requires
     returns-3)
