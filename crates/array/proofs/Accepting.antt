@@ -5,7 +5,7 @@ use mathlib.Core.Bool.{true, false≢true}
 use mathlib.Core.List.{List, [], _∷_, _++_, append-assoc}
 use native.Mathlib.Nat.{mul-assoc, mul-comm, mul-one, le-div-iff-mul-le, mul-pos, le-mul-of-pos-right}
 use native.Mathlib.Omega.{arith}
-use lib.ListN.{length, getD}
+use lib.ListN.{length}
 use Rattle.verdict.specs.Machine.{Accepts}
 use Rattle.verdict.specs.Says.{Bytes}
 use Rattle.verdict.proofs.Judging.{Reaches}

@@ -1,6 +1,5 @@
 -- `arrayreader::address_in` meets its contract. The loop's invariant: so many sizes were drawn again, and so many indices of the offset are done. Assumes nothing.
-use Prim.Native.Nat.{suc, _+_, _-_, _*_, _≤_, _<_}
-use mathlib.Core.Path.{_≡_, sym, _∙_}
+use Prim.Native.Nat.{_+_, _-_, _*_, _≤_, _<_}
 use native.Mathlib.Nat.{mul-le-mul-right}
 use native.Mathlib.Numerals.{add-one}
 use native.Mathlib.Omega.{arith}
@@ -27,7 +26,7 @@ returns c =
     let s = c .before .before .before in
     let r = s .args in
     let a = meaningOf (now (r .bytes)) in
-    refused-outside a (now (r .indices)) (count-outside (a .sizes) (now (r .indices)) (λ e. c .if1 .taken (e ∙ sym (s .pre .0 .counted))))
+    refused-outside a (now (r .indices)) (count-outside (a .sizes) (now (r .indices)) (λ e. omega (arith, s .pre .0 .counted)))
 
 loop-holds : tie.Need-loop-holds Inv-loop μ-loop
 loop-holds c =

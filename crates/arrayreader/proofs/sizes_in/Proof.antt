@@ -28,7 +28,7 @@ size-at-requires-8 c κs = c .size-at7 .ensures .1
 
 returns : tie.Need-returns
 returns c =
-    rw (
+    simp (
       c .size-at8 .ensures .0,
       c .before .size-at7 .ensures .0,
       c .before .before .size-at6 .ensures .0,
