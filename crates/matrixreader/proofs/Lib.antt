@@ -1,5 +1,2 @@
-pub mod Heading
-pub mod Sending
-pub mod Passing
-pub mod Walking
+pub mod Answering
 pub mod Only

@@ -5,19 +5,9 @@ use Rattle.matrixreader.proofs.verdict.Kinds as verdict
 use Rattle.matrixreader.proofs.verdict.Reads as verdict-reads
 use Rattle.matrixreader.proofs.read.Kinds as read
 use Rattle.matrixreader.proofs.read.Reads as read-reads
-use Rattle.matrixreader.proofs.walk.found_in.Kinds as found-in
-use Rattle.matrixreader.proofs.walk.found_in.Reads as found-in-reads
-use Rattle.matrixreader.proofs.judge.judge_fields.Kinds as judge-fields
-use Rattle.matrixreader.proofs.judge.judge_fields.Reads as judge-fields-reads
 
 pub verdict-only : OneAnswer verdict.ps verdict.r verdict-reads.Post
 verdict-only κs a x y s t p q = p ∙ sym q
 
 pub read-only : OneAnswer read.ps read.r read-reads.Post
 read-only κs a x y s t p q = p ∙ sym q
-
-pub found-in-only : OneAnswer found-in.ps found-in.r found-in-reads.Post
-found-in-only κs a x y s t p q = p ∙ sym q
-
-pub judge-fields-only : OneAnswer judge-fields.ps judge-fields.r judge-fields-reads.Post
-judge-fields-only κs a x y s t p q = p ∙ sym q

@@ -2,17 +2,11 @@
 ghost use mathlib.Core.Path.{_≡_};
 ghost use Rattle.matrix.specs.Machine.{verdictOf};
 ghost use Rattle.matrixreader.specs.Reading.{readOf};
-use crate::walk::Walked;
 use matrix::Fields;
+use matrixwalk::Walked;
+use matrixwalk::found_in;
 use verdict::Refusal;
 use verdict::Verdict;
-
-mod control;
-mod header;
-pub mod judge;
-mod vector;
-pub mod walk;
-mod words;
 
 // What reading a matrix pack answers: its fields and its length, or the verdict where it is not complete.
 pub enum Answer {
@@ -25,7 +19,7 @@ pub enum Answer {
 pub fn verdict(bytes: &[u8]) -> Verdict
     ensures { λ r. ⌜ r ≡ verdictOf (now (bytes .entry)) ⌝ }
 {
-    let walked = walk::walk(bytes);
+    let walked = found_in(bytes);
     match walked {
         Walked::Whole(found) => Verdict::Complete(found.length),
         Walked::Unfinished(missing) => Verdict::Unfinished(missing),
@@ -37,7 +31,7 @@ pub fn verdict(bytes: &[u8]) -> Verdict
 pub fn read(bytes: &[u8]) -> Answer
     ensures { λ r. ⌜ r ≡ readOf (now (bytes .entry)) ⌝ }
 {
-    let walked = walk::walk(bytes);
+    let walked = found_in(bytes);
     match walked {
         Walked::Whole(found) => {
             let fields = found.fields;

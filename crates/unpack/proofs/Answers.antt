@@ -7,7 +7,7 @@ use Rattle.verdict.specs.declared.Reason.the-variants.{SmallBuffer}
 use Rattle.verdict.specs.declared.Verdict.{Verdict}
 use Rattle.verdict.specs.declared.Verdict.the-variants.{Complete, Refused}
 use Rattle.matrix.specs.declared.Fields.{Fields}
-use Rattle.matrixreader.specs.declared.walk.Found.{Found}
+use Rattle.matrixwalk.specs.declared.Found.{Found}
 use Rattle.matrix.specs.Spelling.{meaningOf}
 use Rattle.unpack.specs.Arrangement.{expandedWords, expandedMarks}
 use Rattle.unpack.specs.Unpacking.{over, unpackShort, UnpackedFor, expandShort, ExpandedFor}

@@ -13,7 +13,7 @@ use Rattle.word.specs.Bytes.{wordAt}
 use Rattle.word.specs.Many.{wordsIn}
 use Rattle.word.proofs.Words.{getD-words}
 use Rattle.matrix.specs.declared.Fields.{Fields}
-use Rattle.matrixreader.specs.declared.walk.Found.{Found}
+use Rattle.matrixwalk.specs.declared.Found.{Found}
 use Rattle.matrix.specs.Meaning.{pairs, sum, nought}
 use Rattle.matrix.specs.Order.{pairAt}
 use Rattle.matrix.specs.Spelling.{vectorBytes, read, meaningOf}

@@ -8,13 +8,13 @@ use Rattle.verdict.specs.declared.Refusal.{Refusal}
 use Rattle.verdict.specs.declared.Verdict.{Verdict}
 use Rattle.verdict.specs.declared.Verdict.the-variants.{Complete, Unfinished, Refused}
 use Rattle.verdict.specs.Says.{Bytes}
-use Rattle.matrixreader.specs.declared.walk.Found.{Found}
-use Rattle.matrixreader.specs.declared.walk.Walked.{Walked}
-use Rattle.matrixreader.specs.declared.walk.Walked.the-variants.{Whole as WalkedWhole, Unfinished as WalkedUnfinished, Refused as WalkedRefused}
+use Rattle.matrixwalk.specs.declared.Found.{Found}
+use Rattle.matrixwalk.specs.declared.Walked.{Walked}
+use Rattle.matrixwalk.specs.declared.Walked.the-variants.{Whole as WalkedWhole, Unfinished as WalkedUnfinished, Refused as WalkedRefused}
 use Rattle.matrix.specs.Meaning.{sum}
 use Rattle.matrix.specs.Spelling.{vectorBytes, marksOf, fieldsOf, meaningOf}
 use Rattle.matrix.specs.Machine.{verdictOf}
-use Rattle.matrixreader.specs.Walk.{walkedFor, walkedOf}
+use Rattle.matrixwalk.specs.Walk.{walkedFor, walkedOf}
 use Rattle.matrix.proofs.Complete.{complete-meaning}
 use Rattle.matrix.proofs.Decoding.{pack-length}
 use Rattle.unpack.specs.Unpacking.{UnpackedBy, ExpandedBy}

@@ -8,7 +8,7 @@ use native.Mathlib.Omega.{arith}
 use borrow.Author.Tests.{eqb-true, eqb-false, ltb-true, ltb-false}
 use lib.Dec.{eqb, ltb}
 use lib.ListN.{length, getD, set}
-use Rattle.matrixreader.specs.declared.walk.Found.{Found}
+use Rattle.matrixwalk.specs.declared.Found.{Found}
 use Rattle.matrix.specs.Meaning.{Matrix, sum, pairs}
 use Rattle.matrix.specs.Order.{pairAt}
 use Rattle.matrix.specs.Spelling.{meaningOf}

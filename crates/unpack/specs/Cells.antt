@@ -5,7 +5,7 @@ use mathlib.Core.Bool.{Bool, true, false, _&&_}
 use mathlib.Core.List.{List}
 use lib.ListN.{length, getD}
 use lib.Dec.{eqb, ltb}
-use Rattle.matrixreader.specs.declared.walk.Found.{Found}
+use Rattle.matrixwalk.specs.declared.Found.{Found}
 use Rattle.matrix.specs.Meaning.{Matrix, nought}
 use Rattle.matrix.specs.Order.{pairAt}
 use Rattle.matrix.specs.Spelling.{meaningOf}

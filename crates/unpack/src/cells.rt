@@ -13,7 +13,7 @@ use crate::words::nought_of;
 use crate::words::too_small;
 use crate::words::word_at;
 use crate::words::word_or;
-use matrixreader::walk::Found;
+use matrixwalk::Found;
 use verdict::Verdict;
 
 // Where the coefficients have got to: the place of the next one, and its pair.

@@ -2,8 +2,8 @@
 ghost use Rattle.unpack.specs.Unpacking.{UnpackedBy, ExpandedBy};
 use crate::cells::expand_found;
 use crate::words::unpack_found;
-use matrixreader::walk::Walked;
-use matrixreader::walk::found_in;
+use matrixwalk::Walked;
+use matrixwalk::found_in;
 use verdict::Verdict;
 
 mod cells;

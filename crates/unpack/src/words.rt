@@ -13,7 +13,7 @@ ghost use Rattle.matrix.specs.Spelling.{vectorBytes, meaningOf};
 ghost use Rattle.unpack.specs.Unpacking.{over, UnpackedFor};
 ghost use Rattle.unpack.specs.Found.{Whole};
 use matrix::Fields;
-use matrixreader::walk::Found;
+use matrixwalk::Found;
 use verdict::Reason;
 use verdict::Refusal;
 use verdict::Verdict;

@@ -1,15 +1,13 @@
 -- `matrixreader::read` meets its contract: the fields that were found are those of the bytes' meaning. Assumes nothing.
-use mathlib.Core.Path.{sym, ap, subst}
+use mathlib.Core.Path.{sym, _∙_}
 use denote.Ref.{now}
-use Rattle.matrixreader.specs.Reading.{readFor}
-use Rattle.matrixreader.specs.Walk.{WalkFrom}
-use Rattle.matrixreader.proofs.Walking.{found-read}
+use Rattle.matrixreader.proofs.Answering.{walk-read}
 use borrow.Author.Needs.{needs}
 use Rattle.matrixreader.proofs.read.Statement.{statement}
 use Rattle.matrixreader.proofs.read.Tie as tie
 
-walk-requires : tie.Need-walk-requires
-walk-requires c κs = search needs
+found-in-requires : tie.Need-found-in-requires
+found-in-requires c κs = search needs
 
 enum-known-walked : tie.Need-enum-known-walked
 enum-known-walked c = search needs
@@ -22,22 +20,24 @@ enum-known-walked-3 c = search needs
 
 returns : tie.Need-returns
 returns c =
-    let p = c .before .before .before .before in let s = now (p .before .before .args .bytes) in
-    found-read s _ (subst (WalkFrom s) (c .before .before .walked .given .1) (p .walk .ensures))
+    let p = c .before .before .before .before in
+    walk-read (now (p .before .before .args .bytes)) _ (sym (c .before .before .walked .given .1) ∙ p .found-in .ensures)
 
 returns-2 : tie.Need-returns-2
-returns-2 c = let p = c .before .before .before in let s = now (p .before .before .args .bytes) in
-    sym (ap (readFor s) (subst (WalkFrom s) (c .before .walked2 .given .1) (p .walk .ensures)))
+returns-2 c =
+    let p = c .before .before .before in
+    walk-read (now (p .before .before .args .bytes)) _ (sym (c .before .walked2 .given .1) ∙ p .found-in .ensures)
 
 returns-3 : tie.Need-returns-3
-returns-3 c = let p = c .before .before .before in let s = now (p .before .before .args .bytes) in
-    sym (ap (readFor s) (subst (WalkFrom s) (c .before .walked3 .given .1) (p .walk .ensures)))
+returns-3 c =
+    let p = c .before .before .before in
+    walk-read (now (p .before .before .args .bytes)) _ (sym (c .before .walked3 .given .1) ∙ p .found-in .ensures)
 
 pub read-spec : {M : Type 1} → statement M
 read-spec =
     tie.close
     (tie.spec
-    walk-requires
+    found-in-requires
     enum-known-walked
     enum-known-walked-2
     enum-known-walked-3

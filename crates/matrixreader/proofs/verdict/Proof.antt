@@ -1,13 +1,13 @@
--- `matrixreader::verdict` meets its contract: the walk's answer is the run's. Assumes nothing.
-use mathlib.Core.Path.{sym, subst}
+-- `matrixreader::verdict` meets its contract: the walk's answer stands for the verdict. Assumes nothing.
+use mathlib.Core.Path.{sym, _∙_}
 use denote.Ref.{now}
-use Rattle.matrixreader.specs.Walk.{WalkFrom}
+use Rattle.matrixwalk.proofs.Walking.{walk-said}
 use borrow.Author.Needs.{needs}
 use Rattle.matrixreader.proofs.verdict.Statement.{statement}
 use Rattle.matrixreader.proofs.verdict.Tie as tie
 
-walk-requires : tie.Need-walk-requires
-walk-requires c κs = search needs
+found-in-requires : tie.Need-found-in-requires
+found-in-requires c κs = search needs
 
 enum-known-walked : tie.Need-enum-known-walked
 enum-known-walked c = search needs
@@ -19,22 +19,25 @@ enum-known-walked-3 : tie.Need-enum-known-walked-3
 enum-known-walked-3 c = search needs
 
 returns : tie.Need-returns
-returns c = let p = c .before .before .before in let s = now (p .before .before .args .bytes) in
-    sym ((subst (WalkFrom s) (c .before .walked .given .1) (p .walk .ensures)) .said)
+returns c =
+    let p = c .before .before .before in
+    sym (walk-said (now (p .before .before .args .bytes)) _ (sym (c .before .walked .given .1) ∙ p .found-in .ensures))
 
 returns-2 : tie.Need-returns-2
-returns-2 c = let p = c .before .before .before in let s = now (p .before .before .args .bytes) in
-    sym (subst (WalkFrom s) (c .before .walked2 .given .1) (p .walk .ensures))
+returns-2 c =
+    let p = c .before .before .before in
+    sym (walk-said (now (p .before .before .args .bytes)) _ (sym (c .before .walked2 .given .1) ∙ p .found-in .ensures))
 
 returns-3 : tie.Need-returns-3
-returns-3 c = let p = c .before .before .before in let s = now (p .before .before .args .bytes) in
-    sym (subst (WalkFrom s) (c .before .walked3 .given .1) (p .walk .ensures))
+returns-3 c =
+    let p = c .before .before .before in
+    sym (walk-said (now (p .before .before .args .bytes)) _ (sym (c .before .walked3 .given .1) ∙ p .found-in .ensures))
 
 pub verdict-spec : {M : Type 1} → statement M
 verdict-spec =
     tie.close
     (tie.spec
-    walk-requires
+    found-in-requires
     enum-known-walked
     enum-known-walked-2
     enum-known-walked-3

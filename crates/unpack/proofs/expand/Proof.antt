@@ -2,7 +2,7 @@
 use mathlib.Core.Path.{_∙_, sym, subst}
 use denote.Ref.{now}
 use Rattle.verdict.specs.declared.Verdict.{Verdict}
-use Rattle.matrixreader.specs.declared.walk.Walked.the-variants.{Whole}
+use Rattle.matrixwalk.specs.declared.Walked.the-variants.{Whole}
 use Rattle.matrix.specs.Spelling.{meaningOf}
 use Rattle.unpack.specs.Unpacking.{ExpandedFor}
 use Rattle.unpack.proofs.Finding.{walk-said, found-whole, expanded-unfinished, expanded-refused}

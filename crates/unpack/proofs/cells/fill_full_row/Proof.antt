@@ -8,7 +8,7 @@ use denote.Ref.{now}
 use lib.ListN.{length as size, getD}
 use Rattle.word.specs.Bytes.{wordAt}
 use Rattle.matrix.specs.declared.Fields.{Fields}
-use Rattle.matrixreader.specs.declared.walk.Found.{Found}
+use Rattle.matrixwalk.specs.declared.Found.{Found}
 use Rattle.matrix.specs.Meaning.{Matrix, pairs}
 use Rattle.matrix.specs.Order.{pairAt}
 use Rattle.matrix.specs.Spelling.{meaningOf}

@@ -1,0 +1,27 @@
+-- What reading answers behind each answer of the walk. Assumes nothing.
+use Prim.Native.Nat.{ℕ}
+use mathlib.Core.Path.{_≡_, refl, ap, _∙_}
+use mathlib.Core.List.{List}
+use Rattle.verdict.specs.declared.Verdict.{Verdict}
+use Rattle.verdict.specs.declared.Verdict.the-variants.{Complete, Unfinished, Refused}
+use Rattle.matrixwalk.specs.declared.Walked.{Walked}
+use Rattle.matrixwalk.specs.declared.Walked.the-variants.{Whole, Unfinished as WalkedUnfinished, Refused as WalkedRefused}
+use Rattle.matrixwalk.specs.Walk.{walkedFor, walkedOf}
+use Rattle.matrix.specs.Machine.{verdictOf}
+use Rattle.matrixreader.specs.declared.Answer.{Answer}
+use Rattle.matrixreader.specs.declared.Answer.the-variants.{Matrix, Unfinished as AnswerUnfinished, Refused as AnswerRefused}
+use Rattle.matrixreader.specs.Reading.{readFor, readOf}
+
+-- what reading answers behind a walk
+abbrev pub readIn : Walked → Answer
+readIn (Whole found) = Matrix (found .fields) (found .length)
+readIn (WalkedUnfinished missing) = AnswerUnfinished missing
+readIn (WalkedRefused refusal) = AnswerRefused refusal
+
+read-back : (bytes : List ℕ) (v : Verdict) → readIn (walkedFor bytes v) ≡ readFor bytes v
+read-back bytes (Complete n) = refl
+read-back bytes (Unfinished missing) = refl
+read-back bytes (Refused refusal) = refl
+
+pub walk-read : (bytes : List ℕ) (walked : Walked) → walked ≡ walkedOf bytes → readIn walked ≡ readOf bytes
+walk-read bytes walked e = ap readIn e ∙ read-back bytes (verdictOf bytes)

@@ -1,0 +1,235 @@
+// The words of a matrix pack against their rule: a word's first byte mostly settles it, and no byte is looked at that cannot change the answer.
+ghost use mathlib.Core.Path.{_≡_};
+ghost use mathlib.Core.Bool.{true};
+ghost use Prim.Native.Nat.{_+_, _-_, _*_, _/_, _%_, _^_, _≤_, _<_};
+ghost use lib.Bits.{bitAnd};
+ghost use lib.ListN.{length as count, getD};
+ghost use Rattle.rule.specs.Rules.{Sound, cleared};
+ghost use Rattle.matrixwalk.specs.Walk.{maskOf, LookedAt, Judges, Checks, SettledBelow, SettledByTwo, PassedFrom};
+use crate::control::lesser;
+use crate::header::byte;
+use rule::rules::Rule;
+use verdict::Reason;
+use verdict::Refusal;
+
+// The place behind some words that keep their rule, or why there is none.
+pub(crate) enum Passed {
+    To(usize),
+    Unfinished(usize),
+    Refused(Refusal),
+}
+
+// What of a word's first byte counts: all of it, or what stands below the sign.
+fn mask_of(rule: Rule) -> usize
+    ensures { λ r. ⌜ r ≡ maskOf rule ⌝ }
+{
+    if rule.sign == 0 { 255 } else { 127 }
+}
+
+// The byte of the greatest word that has `more` bytes behind it.
+fn limit_at(greatest: u64, more: usize) -> usize
+    requires { ⌜ more ≤ 7 ⌝ }
+    ensures { λ r. ⌜ r ≡ greatest / 256 ^ more % 256 ⌝ }
+{
+    ((greatest >> (8 * more)) % 256) as usize
+}
+
+// Behind a first byte that is its limit's: the byte that breaks the rule, or `until`.
+fn tight_word(bytes: &[u8], at: usize, until: usize, rule: Rule) -> usize
+    requires { ⌜ LookedAt (now bytes) at until rule × (cleared (rule .sign / 256 ^ (rule .length - 1)) (getD (now bytes) at 0) ≡ rule .greatest / 256 ^ (rule .length - 1)) ⌝ }
+    ensures { λ r. ⌜ Judges (now (bytes .entry)) at until rule r ⌝ }
+{
+    let end = at + rule.length;
+    let stop = lesser(end, until);
+    let mut i = at + 1;
+    while i < stop {
+        let limit = limit_at(rule.greatest, end - 1 - i);
+        let b = byte(bytes, i);
+        if limit < b {
+            return i;
+        }
+        if b < limit {
+            return until;
+        }
+        i += 1;
+    }
+    until
+}
+
+// The byte of the word at a place that breaks its rule, or `until` where none before that does.
+fn judge_word(bytes: &[u8], at: usize, until: usize, rule: Rule, mask: usize, first: usize) -> usize
+    requires { ⌜ LookedAt (now bytes) at until rule × (mask ≡ maskOf rule) × (first ≡ rule .greatest / 256 ^ (rule .length - 1)) ⌝ }
+    ensures { λ r. ⌜ Judges (now (bytes .entry)) at until rule r ⌝ }
+{
+    let b = byte(bytes, at) & mask;
+    if first < b {
+        return at;
+    }
+    if b < first {
+        return until;
+    }
+    tight_word(bytes, at, until, rule)
+}
+
+// The byte of the words from a place on that breaks their rule, or `until` where none before that does, word by word.
+fn check_each(bytes: &[u8], place: usize, until: usize, rule: Rule) -> usize
+    requires { ⌜ Sound rule × (1 ≤ rule .length) × (place ≤ until) × (until ≤ count (now bytes)) ⌝ }
+    ensures { λ r. ⌜ Checks (now (bytes .entry)) place until rule r ⌝ }
+{
+    let mask = mask_of(rule);
+    let first = limit_at(rule.greatest, rule.length - 1);
+    let mut at = place;
+    while at < until {
+        let broken = judge_word(bytes, at, until, rule, mask, first);
+        if broken < until {
+            return broken;
+        }
+        at += rule.length;
+    }
+    until
+}
+
+fn greater(a: u8, b: u8) -> u8
+    ensures { λ r. ⌜ (a ≤ r) × (b ≤ r) ⌝ }
+{
+    if a < b { b } else { a }
+}
+
+// The greatest first byte of the words up to a place.
+fn greatest_first(bytes: &[u8], place: usize, until: usize, length: usize) -> u8
+    requires { ⌜ (1 ≤ length) × ((length ≤ 8) × ((place ≤ until) × (until ≤ count (now bytes)))) ⌝ }
+    ensures { λ r. ⌜ SettledBelow (now (bytes .entry)) place until length r ⌝ }
+{
+    let mut most: u8 = 0;
+    let mut at = place;
+    while at < until {
+        most = greater(most, bytes[at]);
+        at += length;
+    }
+    most
+}
+
+// Each of the usual lengths is a loop of its own to the compiler.
+fn greatest_by_length(bytes: &[u8], place: usize, until: usize, length: usize) -> u8
+    requires { ⌜ (1 ≤ length) × ((length ≤ 8) × ((place ≤ until) × (until ≤ count (now bytes)))) ⌝ }
+    ensures { λ r. ⌜ SettledBelow (now (bytes .entry)) place until length r ⌝ }
+{
+    match length {
+        1 => greatest_first(bytes, place, until, 1),
+        2 => greatest_first(bytes, place, until, 2),
+        4 => greatest_first(bytes, place, until, 4),
+        8 => greatest_first(bytes, place, until, 8),
+        _ => greatest_first(bytes, place, until, length),
+    }
+}
+
+fn greater_two(a: u16, b: u16) -> u16
+    ensures { λ r. ⌜ (a ≤ r) × (b ≤ r) ⌝ }
+{
+    if a < b { b } else { a }
+}
+
+// What counts of the first two bytes of a word.
+fn two_at(bytes: &[u8], at: usize, mask: u16) -> u16
+    requires { ⌜ at + 1 < count (now bytes) ⌝ }
+    ensures { λ r. ⌜ r ≡ bitAnd (getD (now (bytes .entry)) at 0 * 256 + getD (now (bytes .entry)) (at + 1) 0) mask ⌝ }
+{
+    (bytes[at] as u16 * 256 + bytes[at + 1] as u16) & mask
+}
+
+// The greatest beginning, of two bytes, of the words up to a place; 65,535 where a word has only its first byte before that.
+fn greatest_two(bytes: &[u8], place: usize, until: usize, length: usize, mask: u16) -> u16
+    requires { ⌜ (2 ≤ length) × ((length ≤ 8) × ((place ≤ until) × (until ≤ count (now bytes)))) ⌝ }
+    ensures { λ r. ⌜ SettledByTwo (now (bytes .entry)) place until length mask r ⌝ }
+{
+    let mut most: u16 = 0;
+    let mut at = place;
+    while at + 1 < until {
+        most = greater_two(most, two_at(bytes, at, mask));
+        at += length;
+    }
+    if at < until {
+        return 65535;
+    }
+    most
+}
+
+fn two_by_length(bytes: &[u8], place: usize, until: usize, length: usize, mask: u16) -> u16
+    requires { ⌜ (2 ≤ length) × ((length ≤ 8) × ((place ≤ until) × (until ≤ count (now bytes)))) ⌝ }
+    ensures { λ r. ⌜ SettledByTwo (now (bytes .entry)) place until length mask r ⌝ }
+{
+    match length {
+        2 => greatest_two(bytes, place, until, 2, mask),
+        4 => greatest_two(bytes, place, until, 4, mask),
+        8 => greatest_two(bytes, place, until, 8, mask),
+        _ => greatest_two(bytes, place, until, length, mask),
+    }
+}
+
+// The first two bytes of a word that has `more` bytes behind them.
+fn two_of(word: u64, more: usize) -> u16
+    requires { ⌜ (more ≤ 6) × (word < 65536 * 256 ^ more) ⌝ }
+    ensures { λ r. ⌜ r ≡ word / 256 ^ more ⌝ }
+{
+    ((word >> (8 * more)) % 65536) as u16
+}
+
+// Whether two bytes of each word settle that none up to a place breaks its rule, which has a sign.
+fn settled_by_two(bytes: &[u8], place: usize, until: usize, rule: Rule) -> bool
+    requires { ⌜ Sound rule × (2 ≤ rule .length) × (place ≤ until) × (until ≤ count (now bytes)) × (1 ≤ rule .sign) ⌝ }
+    ensures { λ r. ⌜ (r ≡ true → Checks (now (bytes .entry)) place until rule until) ⌝ }
+{
+    let more = rule.length - 2;
+    // what stands below the sign; the compiler would take a constant mask apart
+    let mask = two_of(rule.sign - 1, more);
+    two_by_length(bytes, place, until, rule.length, mask) < two_of(rule.greatest, more)
+}
+
+// Whether their first bytes alone settle that no word up to a place breaks its rule.
+fn settled(bytes: &[u8], place: usize, until: usize, rule: Rule) -> bool
+    requires { ⌜ Sound rule × (1 ≤ rule .length) × (place ≤ until) × (until ≤ count (now bytes)) ⌝ }
+    ensures { λ r. ⌜ (r ≡ true → Checks (now (bytes .entry)) place until rule until) ⌝ }
+{
+    if rule.sign == 0 {
+        let most = greatest_by_length(bytes, place, until, rule.length) as usize;
+        return most < limit_at(rule.greatest, rule.length - 1);
+    }
+    if rule.length == 1 {
+        return false;
+    }
+    settled_by_two(bytes, place, until, rule)
+}
+
+// The byte of the words from a place on that breaks their rule, or `until` where none before that does.
+fn check(bytes: &[u8], place: usize, until: usize, rule: Rule) -> usize
+    requires { ⌜ Sound rule × (1 ≤ rule .length) × (place ≤ until) × (until ≤ count (now bytes)) ⌝ }
+    ensures { λ r. ⌜ Checks (now (bytes .entry)) place until rule r ⌝ }
+{
+    if settled(bytes, place, until, rule) {
+        return until;
+    }
+    check_each(bytes, place, until, rule)
+}
+
+// Past so many words of a rule, behind which `after` bytes of other words are to come.
+pub(crate) fn pass(bytes: &[u8], place: usize, words: usize, rule: Rule, after: usize) -> Passed
+    requires { ⌜ Sound rule × (words ≤ 2016) × (place ≤ count (now bytes)) × (after ≤ 65536) ⌝ }
+    ensures { λ r. ⌜ PassedFrom (now (bytes .entry)) place words rule after r ⌝ }
+{
+    if rule.length == 0 {
+        return Passed::To(place);
+    }
+    let end = place + words * rule.length;
+    let until = lesser(end, bytes.len());
+    let broken = check(bytes, place, until, rule);
+    if broken < until {
+        return Passed::Refused(Refusal {
+            reason: Reason::ValueRange,
+            place: broken,
+        });
+    }
+    if until < end {
+        return Passed::Unfinished(end - until + after);
+    }
+    Passed::To(end)
+}
