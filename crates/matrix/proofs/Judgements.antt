@@ -1,5 +1,5 @@
--- What a judge answers of a byte is what the machine does with it. Assumes nothing.
-use Prim.Native.Nat.{ℕ, _-_}
+-- What a judge answers of a byte is what the machine does with it, and where the machine refuses behind a move. Assumes nothing.
+use Prim.Native.Nat.{ℕ, _-_, _≤_}
 use mathlib.Core.Path.{_≡_, refl}
 use mathlib.Core.Bool.{Bool, true, false, cond}
 use mathlib.Core.List.{List, [], _∷_}
@@ -7,12 +7,15 @@ use native.Mathlib.Omega.{arith}
 use Rattle.verdict.specs.Rows.{Row, judged}
 use Rattle.verdict.proofs.Judging.{judged-kept}
 use Rattle.verdict.proofs.Deciding.{judgement-kept}
+use Rattle.verdict.proofs.Beginnings.{complete-refused, refused-behind}
 use Rattle.verdict.specs.declared.Reason.{Reason}
+use Rattle.verdict.specs.declared.Refusal.{Refusal}
 use Rattle.verdict.specs.declared.Verdict.the-variants.{Refused}
 use Rattle.verdict.specs.Machine.{Move, on, bad, led}
 use Rattle.verdict.specs.declared.Judged.the-variants.{Kept as JudgedKept, Broken}
 use Rattle.verdict.specs.Judgement.{judgement}
-use Rattle.matrix.specs.Machine.{State, verdictAt, verdictBehind}
+use Rattle.matrix.specs.Machine.{State, word, Run, enter, step, least, verdictAt, verdictBehind}
+use Rattle.matrix.proofs.Reasons.{enter-word}
 
 judged-broken : (rows : List Row) (next : Move State) (reason : Reason) → judgement rows ≡ Broken reason → judged rows next ≡ bad reason
 unfolding judged
@@ -35,3 +38,10 @@ module _ (rows : List Row) (next : Move State) (bytes : List ℕ) (place : ℕ) 
   pub behind-broken : (reason : Reason) → judgement rows ≡ Broken reason → verdictBehind (judged rows next) bytes place ≡ Refused (record { reason = reason; place = place - 1 })
   unfolding led
   behind-broken reason e = rw (judged-broken rows next reason e)
+
+-- into words nothing is refused before their place
+pub words-refused : (runs : List Run) (bytes : List ℕ) (place : ℕ) (r : Refusal) → verdictBehind (enter runs) bytes place ≡ Refused r → place ≤ r .place
+unfolding led
+words-refused runs bytes place r =
+    enter-word (λ (m : Move State). verdictBehind m bytes place ≡ Refused r → place ≤ r .place) (λ e. absurd (complete-refused e))
+    (λ more sign top run rest e. refused-behind step least (word more sign top run rest) bytes place r e) runs

@@ -34,7 +34,7 @@ one-reason w = one-blamed (rowsOf w)
 -- ---- in words
 
 -- into words, or done
-enter-word : (P : Move State → Type 0) → P done → ((more sign top : ℕ) (run : Run) (runs : List Run) → P (on (word more sign top run runs))) → (runs : List Run) → P (enter runs)
+pub enter-word : (P : Move State → Type 0) → P done → ((more sign top : ℕ) (run : Run) (runs : List Run) → P (on (word more sign top run runs))) → (runs : List Run) → P (enter runs)
 unfolding enter
 enter-word P d f [] = d
 enter-word P d f (run ∷ runs) = many (run .count) (enter-word P d f runs)

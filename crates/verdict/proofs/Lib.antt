@@ -3,6 +3,7 @@ pub mod Numbered
 pub mod Saying
 pub mod Running
 pub mod Reaching
+pub mod Beginnings
 pub mod Judging
 pub mod Putting
 pub mod Deciding
