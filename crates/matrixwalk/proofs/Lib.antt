@@ -1,5 +1,3 @@
-pub mod Heading
-pub mod Sending
 pub mod Passing
 pub mod Walking
 pub mod Only

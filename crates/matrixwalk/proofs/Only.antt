@@ -3,11 +3,6 @@ use mathlib.Core.Path.{_∙_, sym}
 use Rattle.verdict.proofs.OneAnswer.{OneAnswer}
 use Rattle.matrixwalk.proofs.found_in.Kinds as found-in
 use Rattle.matrixwalk.proofs.found_in.Reads as found-in-reads
-use Rattle.matrixwalk.proofs.judge.judge_fields.Kinds as judge-fields
-use Rattle.matrixwalk.proofs.judge.judge_fields.Reads as judge-fields-reads
 
 pub found-in-only : OneAnswer found-in.ps found-in.r found-in-reads.Post
 found-in-only κs a x y s t p q = p ∙ sym q
-
-pub judge-fields-only : OneAnswer judge-fields.ps judge-fields.r judge-fields-reads.Post
-judge-fields-only κs a x y s t p q = p ∙ sym q

@@ -16,8 +16,9 @@ use Rattle.matrixwalk.specs.declared.Walked.{Walked}
 use Rattle.matrixwalk.specs.declared.Walked.the-variants.{Whole, Unfinished as WalkedUnfinished, Refused as WalkedRefused}
 use Rattle.matrix.specs.Meaning.{sum, LawfulFields}
 use Rattle.matrix.specs.Spelling.{vectorBytes, fieldsOf, marksOf}
+use Rattle.matrixhead.specs.Beginning.{BegunBy}
 use Rattle.matrix.specs.Machine.{Run, enter, runBytes, verdictOf, verdictBehind}
-use Rattle.matrixwalk.specs.Walk.{ruleIn, runOf, Headed, SentBy, PassedTo, Deviated, FoundIn, WalkFrom, walkedFor, walkedOf}
+use Rattle.matrixwalk.specs.Walk.{ruleIn, runOf, PassedTo, Deviated, FoundIn, WalkFrom, walkedFor, walkedOf}
 
 -- the rules that lawful fields choose
 module _ (f : Fields) (g : LawfulFields f) where
@@ -28,17 +29,17 @@ module _ (f : Fields) (g : LawfulFields f) where
   chosen-coefficients = rw (g .first .coefficient-length)
 
 module _ (bytes : List ℕ) (f : Fields) (sent words : ℕ) (rule : Rule) where
-  module _ (h : Headed (verdictOf bytes) bytes f) (s : SentBy bytes f sent) (w : words ≡ 3 + vectorBytes f) (e : rule ≡ deviationRule (f .sf) (f .slen)) where
+  module _ (b : BegunBy bytes f words sent) (e : rule ≡ deviationRule (f .sf) (f .slen)) where
     -- the coefficients behind the deviations
     abbrev behind : List Run
     behind = runOf (coefficientRule (f .cf) (f .clen)) sent ∷ []
 
     behind-bytes : runBytes behind ≡ sent * f .clen
     unfolding runBytes
-    behind-bytes = rw (coefficient-length (f .cf) (f .clen) (h .lawful .first .coefficient-length)) (omega arith)
+    behind-bytes = rw (coefficient-length (f .cf) (f .clen) (b .lawful .first .coefficient-length)) (omega arith)
 
     to-deviations : verdictOf bytes ≡ verdictBehind (enter (runOf rule (f .n) ∷ behind)) bytes words
-    to-deviations = rw (e, w) (h .leads ∙ s .leads)
+    to-deviations = rw e (b .leads)
 
     pub deviations-end : (v : Verdict) → ((runs : List Run) → runBytes runs ≡ sent * f .clen → verdictBehind (enter (runOf rule (f .n) ∷ runs)) bytes words ≡ v) → verdictOf bytes ≡ v
     deviations-end v x = to-deviations ∙ x behind behind-bytes
@@ -46,10 +47,8 @@ module _ (bytes : List ℕ) (f : Fields) (sent words : ℕ) (rule : Rule) where
     pub deviations-passed : (place : ℕ) → PassedTo bytes words (f .n) rule (sent * f .clen) place → Deviated bytes f words sent place
     deviations-passed place p =
         record {
-          head = h;
-          vector = s;
-          start = w;
-          same = p .same ∙ ap (λ (k : ℕ). words + f .n * k) (ap (λ (r : Rule). r .length) e ∙ deviation-length (f .sf) (f .slen) (h .lawful .deviation-length));
+          begun = b;
+          same = p .same ∙ ap (λ (k : ℕ). words + f .n * k) (ap (λ (r : Rule). r .length) e ∙ deviation-length (f .sf) (f .slen) (b .lawful .deviation-length));
           within = p .within;
           leads = to-deviations ∙ p .leads behind behind-bytes;
         }
@@ -65,11 +64,9 @@ module _ (bytes : List ℕ) (f : Fields) (sent words : ℕ) (rule : Rule) where
     pub coefficients-passed : (end : ℕ) → PassedTo bytes place sent rule 0 end → FoundIn bytes (record { fields = f; words = words; sent = sent; length = end })
     unfolding runBytes enter led
     coefficients-passed end p =
-        let l : rule .length ≡ f .clen = ap (λ (r : Rule). r .length) e ∙ coefficient-length (f .cf) (f .clen) (d .head .lawful .first .coefficient-length) in
+        let l : rule .length ≡ f .clen = ap (λ (r : Rule). r .length) e ∙ coefficient-length (f .cf) (f .clen) (d .begun .lawful .first .coefficient-length) in
         record {
-          fields = d .head;
-          vector = d .vector;
-          start = d .start;
+          begun = d .begun;
           end = p .same ∙ rw (d .same, l);
           within = p .within;
           said = to-coefficients ∙ p .leads [] refl;
@@ -78,9 +75,9 @@ module _ (bytes : List ℕ) (f : Fields) (sent words : ℕ) (rule : Rule) where
 -- what was found of a whole pack is what its bytes have
 found-same : (bytes : List ℕ) (found : Found) → FoundIn bytes found → Whole found ≡ walkedFor bytes (Complete (found .length))
 found-same bytes found x =
-    let e = x .fields .same in
-    let w : found .words ≡ 3 + vectorBytes (fieldsOf bytes) = x .start ∙ ap (λ (f : Fields). 3 + vectorBytes f) e in
-    let s : found .sent ≡ sum (marksOf (fieldsOf bytes) (take (vectorBytes (fieldsOf bytes)) (drop 3 bytes))) = x .vector .marked ∙ ap (λ (f : Fields). sum (marksOf f (take (vectorBytes f) (drop 3 bytes)))) e in
+    let e = x .begun .same in
+    let w : found .words ≡ 3 + vectorBytes (fieldsOf bytes) = x .begun .start ∙ ap (λ (f : Fields). 3 + vectorBytes f) e in
+    let s : found .sent ≡ sum (marksOf (fieldsOf bytes) (take (vectorBytes (fieldsOf bytes)) (drop 3 bytes))) = x .begun .marked ∙ ap (λ (f : Fields). sum (marksOf f (take (vectorBytes f) (drop 3 bytes)))) e in
     ap (λ (f : Fields). Whole (record { fields = f; words = found .words; sent = found .sent; length = found .length })) e
     ∙ ap₂ (λ (p k : ℕ). Whole (record { fields = fieldsOf bytes; words = p; sent = k; length = found .length })) w s
 

@@ -13,47 +13,15 @@ use Rattle.rule.specs.declared.rules.Ruled.{Ruled}
 use Rattle.rule.specs.declared.rules.Ruled.the-variants.{By, Refused as RuledRefused}
 use Rattle.rule.specs.Rules.{Sound, coefficientRule}
 use Rattle.matrix.specs.declared.Fields.{Fields}
-use Rattle.matrixwalk.specs.declared.header.Head.{Head}
-use Rattle.matrixwalk.specs.declared.header.Head.the-variants.{Fields as HeadFields, Unfinished as HeadUnfinished, Refused as HeadRefused}
-use Rattle.matrixwalk.specs.declared.vector.Sent.{Sent}
-use Rattle.matrixwalk.specs.declared.vector.Sent.the-variants.{Count, Unfinished as SentUnfinished, Refused as SentRefused}
 use Rattle.matrixwalk.specs.declared.words.Passed.{Passed}
 use Rattle.matrixwalk.specs.declared.words.Passed.the-variants.{To, Unfinished as PassedUnfinished, Refused as PassedRefused}
 use Rattle.matrixwalk.specs.declared.Found.{Found}
 use Rattle.matrixwalk.specs.declared.Walked.{Walked}
 use Rattle.matrixwalk.specs.declared.Walked.the-variants.{Whole, Unfinished as WalkedUnfinished, Refused as WalkedRefused}
-use Rattle.matrix.specs.Meaning.{sum, LawfulFields}
+use Rattle.matrix.specs.Meaning.{sum}
 use Rattle.matrix.specs.Spelling.{vectorBytes, fieldsOf, marksOf}
-use Rattle.matrix.specs.Machine.{State, word, Run, enter, enterValues, wordsOf, runBytes, verdictOf, verdictAt, verdictBehind}
-
--- ---- the header
-
--- lawful fields of the bytes, behind which the values follow
-pub record Headed (verdict : Verdict) (bytes : List ℕ) (f : Fields) : Type 0 where
-  pub same : f ≡ fieldsOf bytes
-  pub lawful : LawfulFields f
-  pub within : 3 ≤ length bytes
-  pub leads : verdict ≡ verdictBehind (enterValues f (vectorBytes f)) bytes 3
-
--- the header of the bytes that have this verdict
-abbrev pub HeadFrom : Verdict → List ℕ → Head → Type 0
-HeadFrom verdict bytes (HeadFields f) = Headed verdict bytes f
-HeadFrom verdict bytes (HeadUnfinished missing) = verdict ≡ Unfinished missing
-HeadFrom verdict bytes (HeadRefused refusal) = verdict ≡ Refused refusal
-
--- ---- the bit vector
-
--- so many coefficients are sent, and their words follow
-pub record SentBy (bytes : List ℕ) (f : Fields) (sent : ℕ) : Type 0 where
-  pub counted : sent ≤ 2016
-  pub within : 3 + vectorBytes f ≤ length bytes
-  pub marked : sent ≡ sum (marksOf f (take (vectorBytes f) (drop 3 bytes)))
-  pub leads : verdictBehind (enterValues f (vectorBytes f)) bytes 3 ≡ verdictBehind (enter (wordsOf f sent)) bytes (3 + vectorBytes f)
-
-abbrev pub SentFrom : List ℕ → Fields → Sent → Type 0
-SentFrom bytes f (Count sent) = SentBy bytes f sent
-SentFrom bytes f (SentUnfinished missing) = verdictBehind (enterValues f (vectorBytes f)) bytes 3 ≡ Unfinished missing
-SentFrom bytes f (SentRefused refusal) = verdictBehind (enterValues f (vectorBytes f)) bytes 3 ≡ Refused refusal
+use Rattle.matrix.specs.Machine.{State, word, Run, enter, runBytes, verdictOf, verdictAt, verdictBehind}
+use Rattle.matrixhead.specs.Beginning.{BegunBy}
 
 -- ---- words
 
@@ -123,18 +91,14 @@ ruleIn (RuledRefused refusal) = record { length = 0; sign = 0; greatest = 0 }
 
 -- the deviations end at a place, and the coefficients that are sent follow
 pub record Deviated (bytes : List ℕ) (f : Fields) (words sent place : ℕ) : Type 0 where
-  pub head : Headed (verdictOf bytes) bytes f
-  pub vector : SentBy bytes f sent
-  pub start : words ≡ 3 + vectorBytes f
+  pub begun : BegunBy bytes f words sent
   pub same : place ≡ words + f .n * f .slen
   pub within : place ≤ length bytes
   pub leads : verdictOf bytes ≡ verdictBehind (enter (runOf (coefficientRule (f .cf) (f .clen)) sent ∷ [])) bytes place
 
 -- a whole pack was found
 pub record FoundIn (bytes : List ℕ) (found : Found) : Type 0 where
-  pub fields : Headed (verdictOf bytes) bytes (found .fields)
-  pub vector : SentBy bytes (found .fields) (found .sent)
-  pub start : found .words ≡ 3 + vectorBytes (found .fields)
+  pub begun : BegunBy bytes (found .fields) (found .words) (found .sent)
   pub end : found .length ≡ found .words + found .fields .n * found .fields .slen + found .sent * found .fields .clen
   pub within : found .length ≤ length bytes
   pub said : verdictOf bytes ≡ Complete (found .length)

@@ -1,13 +1,11 @@
 // The words of a matrix pack against their rule: a word's first byte mostly settles it, and no byte is looked at that cannot change the answer.
 ghost use mathlib.Core.Path.{_≡_};
 ghost use mathlib.Core.Bool.{true};
-ghost use Prim.Native.Nat.{_+_, _-_, _*_, _/_, _%_, _^_, _≤_, _<_};
+ghost use Prim.Native.Nat.{_+_, _-_, _*_, _/_, _%_, _^_, _≤_, _<_, min};
 ghost use lib.Bits.{bitAnd};
 ghost use lib.ListN.{length as count, getD};
 ghost use Rattle.rule.specs.Rules.{Sound, cleared};
 ghost use Rattle.matrixwalk.specs.Walk.{maskOf, LookedAt, Judges, Checks, SettledBelow, SettledByTwo, PassedFrom};
-use crate::control::lesser;
-use crate::header::byte;
 use rule::rules::Rule;
 use verdict::Reason;
 use verdict::Refusal;
@@ -17,6 +15,20 @@ pub(crate) enum Passed {
     To(usize),
     Unfinished(usize),
     Refused(Refusal),
+}
+
+fn lesser(a: usize, b: usize) -> usize
+    ensures { λ r. ⌜ r ≡ min a b ⌝ }
+{
+    if a < b { a } else { b }
+}
+
+// The byte at a place.
+fn byte(bytes: &[u8], place: usize) -> usize
+    requires { ⌜ place < count (now bytes) ⌝ }
+    ensures { λ r. ⌜ (r ≡ getD (now (bytes .entry)) place 0) × (r < 256) ⌝ }
+{
+    bytes[place] as usize
 }
 
 // What of a word's first byte counts: all of it, or what stands below the sign.

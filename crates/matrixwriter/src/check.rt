@@ -9,7 +9,7 @@ ghost use Rattle.matrix.specs.Meaning.{pairs, sum, LawfulFields};
 ghost use Rattle.matrixwriter.specs.Given.{deviationMarks, sentFit, disagreeRows, valueRows, givenRows};
 ghost use Rattle.matrixwriter.specs.Checking.{markedOf, checkedOf, Enough};
 use matrix::Fields;
-use matrixwalk::judge::judge_fields;
+use matrixhead::judge::judge_fields;
 use rule::rules::Rule;
 use rule::rules::Ruled;
 use rule::rules::coefficient_rule;

@@ -12,7 +12,7 @@ use Rattle.matrixwalk.proofs.from_coefficients.Tie as tie
 
 -- the rule is the fields'
 rule-is : (c : tie.After-chosen) → c .chosen .result ≡ coefficientRule (c .before .before .before .args .f .cf) (c .before .before .before .args .f .clen)
-rule-is c = c .chosen .ensures ∙ ap ruleIn (c .before .coefficient-rule .ensures) ∙ chosen-coefficients (c .before .before .before .args .f) (c .before .before .before .pre .head .lawful)
+rule-is c = c .chosen .ensures ∙ ap ruleIn (c .before .coefficient-rule .ensures) ∙ chosen-coefficients (c .before .before .before .args .f) (c .before .before .before .pre .begun .lawful)
 
 coefficient-rule-requires : tie.Need-coefficient-rule-requires
 coefficient-rule-requires c κs = search needs
@@ -22,7 +22,7 @@ chosen-requires c κs = search needs
 
 pass-requires : tie.Need-pass-requires
 pass-requires c κs = let d = c .before .before .before .pre in let f = c .before .before .before .args .f in
-    (subst Sound (sym (rule-is c)) (coefficient-sound (f .cf) (f .clen) (d .head .lawful .first .coefficient-length)), d .vector .counted, d .within, omega arith)
+    (subst Sound (sym (rule-is c)) (coefficient-sound (f .cf) (f .clen) (d .begun .lawful .first .coefficient-length)), d .begun .counted, d .within, omega arith)
 
 enum-known-passed : tie.Need-enum-known-passed
 enum-known-passed c = search needs

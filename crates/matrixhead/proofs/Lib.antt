@@ -1,0 +1,4 @@
+pub mod Heading
+pub mod Sending
+pub mod Beginning
+pub mod Only

@@ -1,0 +1,49 @@
+-- `matrixhead::begin` meets its contract: behind a lawful header the values follow. Assumes nothing.
+use mathlib.Core.Path.{subst}
+use denote.Ref.{now}
+use Rattle.matrix.specs.Machine.{verdictOf}
+use Rattle.matrixhead.specs.Beginning.{HeadFrom}
+use Rattle.matrixhead.proofs.Beginning.{head-unfinished, head-refused, begun-one}
+use borrow.Author.Needs.{needs}
+use Rattle.matrixhead.proofs.begin.Statement.{statement}
+use Rattle.matrixhead.proofs.begin.Tie as tie
+
+header-requires : tie.Need-header-requires
+header-requires c κs = search needs
+
+enum-known-head : tie.Need-enum-known-head
+enum-known-head c = search needs
+
+from-values-requires : tie.Need-from-values-requires
+from-values-requires c κs = let p = c .before .before .before in let s = now (p .before .before .args .bytes) in
+    subst (HeadFrom (verdictOf s) s) (c .before .head .given .1) (p .header .ensures)
+
+enum-known-head-2 : tie.Need-enum-known-head-2
+enum-known-head-2 c = search needs
+
+enum-known-head-3 : tie.Need-enum-known-head-3
+enum-known-head-3 c = search needs
+
+returns : tie.Need-returns
+returns c = begun-one (now (c .before .before .before .before .before .before .args .bytes)) (c .from-values .result) (c .from-values .ensures)
+
+returns-2 : tie.Need-returns-2
+returns-2 c = let p = c .before .before .before in let s = now (p .before .before .args .bytes) in
+    begun-one s _ (head-unfinished s _ (subst (HeadFrom (verdictOf s) s) (c .before .head2 .given .1) (p .header .ensures)))
+
+returns-3 : tie.Need-returns-3
+returns-3 c = let p = c .before .before .before in let s = now (p .before .before .args .bytes) in
+    begun-one s _ (head-refused s _ (subst (HeadFrom (verdictOf s) s) (c .before .head3 .given .1) (p .header .ensures)))
+
+pub begin-spec : {M : Type 1} → statement M
+begin-spec =
+    tie.close
+    (tie.spec
+    header-requires
+    enum-known-head
+    from-values-requires
+    enum-known-head-2
+    enum-known-head-3
+    returns
+    returns-2
+    returns-3)

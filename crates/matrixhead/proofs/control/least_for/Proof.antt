@@ -1,0 +1,40 @@
+-- `matrixhead::control::least_for` meets its contract. Assumes nothing.
+use native.Mathlib.Omega.{arith}
+use borrow.Author.Needs.{needs}
+use borrow.Author.Tests.{eq-eqb, ne-eqb}
+use Rattle.matrix.proofs.Pairs.{pairs-most}
+use Rattle.matrixhead.proofs.control.least_for.Statement.{statement}
+use Rattle.matrixhead.proofs.control.least_for.Tie as tie
+
+returns : tie.Need-returns
+returns c = simp (eq-eqb _ _ (c .if1 .taken))
+
+pairs-of-requires : tie.Need-pairs-of-requires
+pairs-of-requires c κs = search needs
+
+add-lesser : tie.Need-add-lesser
+add-lesser c = omega (arith, pairs-most (c .before .before .args .n) (c .before .before .pre .1))
+
+add-lesser-2 : tie.Need-add-lesser-2
+add-lesser-2 c = search needs
+
+lesser-requires : tie.Need-lesser-requires
+lesser-requires c κs = search needs
+
+lesser-requires-2 : tie.Need-lesser-requires-2
+lesser-requires-2 c κs = search needs
+
+returns-2 : tie.Need-returns-2
+returns-2 c = simp (ne-eqb _ _ (c .before .before .before .if1 .left)) (omega arith)
+
+pub least-for-spec : {M : Type 1} → statement M
+least-for-spec =
+    tie.close
+    (tie.spec
+    returns
+    pairs-of-requires
+    add-lesser
+    add-lesser-2
+    lesser-requires
+    lesser-requires-2
+    returns-2)

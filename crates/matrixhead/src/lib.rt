@@ -1,0 +1,56 @@
+// What stands before the words of a matrix pack: its fields, and how many coefficients are sent.
+ghost use mathlib.Core.Path.{_≡_};
+ghost use Rattle.matrix.specs.Machine.{verdictOf};
+ghost use Rattle.matrixhead.specs.Beginning.{Headed, BegunFrom, begunOf};
+use crate::control::vector_bytes;
+use crate::header::Head;
+use crate::header::header;
+use crate::vector::Sent;
+use crate::vector::sent_of;
+use matrix::Fields;
+use verdict::Refusal;
+
+mod control;
+mod header;
+pub mod judge;
+mod vector;
+
+// The fields, the place of the first word and how many coefficients are sent, or why there are none.
+pub enum Begun {
+    Values {
+        fields: Fields,
+        words: usize,
+        sent: usize,
+    },
+    Unfinished(usize),
+    Refused(Refusal),
+}
+
+// Behind the control bytes.
+fn from_values(bytes: &[u8], f: Fields) -> Begun
+    requires { ⌜ Headed (verdictOf (now bytes)) (now bytes) f ⌝ }
+    ensures { λ r. ⌜ BegunFrom (now (bytes .entry)) r ⌝ }
+{
+    let answer = sent_of(bytes, f);
+    match answer {
+        Sent::Count(sent) => Begun::Values {
+            fields: f,
+            words: 3 + vector_bytes(f),
+            sent,
+        },
+        Sent::Unfinished(missing) => Begun::Unfinished(missing),
+        Sent::Refused(refusal) => Begun::Refused(refusal),
+    }
+}
+
+// What the bytes begin with, up to the first word.
+pub fn begin(bytes: &[u8]) -> Begun
+    ensures { λ r. ⌜ r ≡ begunOf (now (bytes .entry)) ⌝ }
+{
+    let head = header(bytes);
+    match head {
+        Head::Fields(f) => from_values(bytes, f),
+        Head::Unfinished(missing) => Begun::Unfinished(missing),
+        Head::Refused(refusal) => Begun::Refused(refusal),
+    }
+}
