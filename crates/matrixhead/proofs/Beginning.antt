@@ -23,7 +23,7 @@ use Rattle.matrix.specs.declared.Fields.{Fields}
 use Rattle.matrix.specs.Meaning.{sum, LawfulFirst, LawfulFields}
 use Rattle.matrix.specs.Spelling.{first, second, bits, vectorBytes, fieldsOf, marksOf}
 use Rattle.matrix.specs.Table.{sizeRows, control1Rows, control2Rows, vectorRows}
-use Rattle.matrix.specs.Machine.{size, control1, control2, step, least, allSent, wordsOf, verdictOf, verdictAt, verdictBehind}
+use Rattle.matrix.specs.Machine.{size, control1, control2, step, least, allSent, wordsOf, verdictOf, verdictAt}
 use Rattle.matrix.proofs.ControlBytes.{size-kept}
 use Rattle.matrix.proofs.Judgements.{words-refused}
 use Rattle.matrixhead.specs.declared.header.Head.{Head}
@@ -32,7 +32,7 @@ use Rattle.matrixhead.specs.declared.vector.Sent.{Sent}
 use Rattle.matrixhead.specs.declared.vector.Sent.the-variants.{Count, Unfinished as SentUnfinished, Refused as SentRefused}
 use Rattle.matrixhead.specs.declared.Begun.{Begun}
 use Rattle.matrixhead.specs.declared.Begun.the-variants.{Values, Unfinished as BegunUnfinished, Refused as BegunRefused}
-use Rattle.matrixhead.specs.Beginning.{Headed, HeadFrom, SentBy, SentFrom, before, valuesOf, begunFor, begunOf, BegunBy, BegunFrom}
+use Rattle.matrixhead.specs.Beginning.{Headed, HeadFrom, SentFrom, before, valuesOf, begunFor, begunOf, BegunBy, BegunFrom}
 use Rattle.matrixhead.proofs.Heading.{size-broken, size-next, control1-broken, control1-next, control1-lawful, control2-broken, control2-headed}
 use Rattle.matrixhead.proofs.Sending.{vector-cut, vector-broken, vector-sent, all-sent}
 
