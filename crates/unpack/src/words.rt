@@ -26,7 +26,8 @@ pub(crate) fn word_at(bytes: &[u8], place: usize, length: usize) -> u64
     requires { ⌜ (length ≤ 8) × (place + length ≤ count (now bytes)) ⌝ }
     ensures { λ r. ⌜ r ≡ wordAt (now (bytes .entry)) place length ⌝ }
 {
-    let read = read_at(bytes, place, length);
+    let end = place + length;
+    let read = read_at(&bytes[place..end], 0, length);
     match read {
         Read::Word(word) => word,
         Read::Unfinished(_) => 0,
