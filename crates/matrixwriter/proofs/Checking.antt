@@ -66,12 +66,12 @@ module _ (f : Fields) (deviations coefficients marks : List ℕ) where
       pub deviations-broken : not fit ≡ true → Broken ValueRange ≡ values
       deviations-broken e = rw (← counted, some, ← tested, e)
 
-      module _ (kept : not fit ≡ false) (all : Bool) (found : all ≡ sentFit (coefficientRule (f .cf) (f .clen)) (take (pairs (f .n)) marks) coefficients) where
+      module _ (kept : not fit ≡ false) (count : ℕ) (pairs-are : count ≡ pairs (f .n)) (all : Bool) (found : all ≡ sentFit (coefficientRule (f .cf) (f .clen)) (take count marks) coefficients) where
         pub coefficients-broken : not all ≡ true → Broken ValueRange ≡ values
-        coefficients-broken e = rw (← counted, some, ← tested, kept, ← found, e)
+        coefficients-broken e = rw (← counted, some, ← tested, kept, ← pairs-are, ← found, e)
 
         pub values-kept : not all ≡ false → Sent sent ≡ values
-        values-kept e = rw (← counted, some, ← tested, kept, ← found, e)
+        values-kept e = rw (← counted, some, ← tested, kept, ← pairs-are, ← found, e)
 
   -- the entries and the marks
   abbrev lists : Checked

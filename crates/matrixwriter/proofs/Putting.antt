@@ -1,22 +1,26 @@
 -- Words and the bit vector put one after the other. Assumes nothing.
-use Prim.Native.Nat.{ℕ, _+_, _-_, _*_, _≤_, _<_}
+use Prim.Native.Nat.{ℕ, _+_, _-_, _*_, _≤_, _<_, min}
 use mathlib.Core.Path.{_≡_, sym, ap, _∙_, subst}
 use mathlib.Core.List.{List, [], _∷_, _++_}
 use native.Mathlib.Nat.{one-mul, zero-mul, mul-le-mul-right}
 use native.Mathlib.Numerals.{add-one}
 use native.Mathlib.Omega.{arith}
-use lib.ListN.{length, take, getD, set, replicate}
-use lib.Seq.{take-take}
+use borrow.Rule.Slice.PartMut.{putMid, post-is}
+use lib.ListN.{length, take, drop, getD, set, replicate, length-drop}
+use lib.Seq.{take-take, length-take-le}
+use Rattle.verdict.specs.declared.Verdict.{Verdict}
 use Rattle.verdict.specs.Writing.{put}
 use Rattle.verdict.proofs.Putting.{put-none, put-put, put-more, put-three, length-put}
 use Rattle.word.specs.Digits.{digits, valueOf}
+use Rattle.word.specs.Many.{bytesFor, WrittenOver}
+use Rattle.word.proofs.Words.{length-bytes, left-whole}
 use Rattle.matrix.specs.declared.Fields.{Fields}
 use Rattle.matrix.specs.Meaning.{sum}
 use Rattle.matrix.specs.Spelling.{control1, control2, packed, spelled}
 use Rattle.matrix.proofs.BitVector.{length-packed}
 use Rattle.matrix.proofs.Decoding.{length-spelled, length-ones}
 use Rattle.unpack.proofs.Sums.{sum-more, sum-first-most}
-use Rattle.matrixwriter.proofs.Spelled.{spelled-more, all-spelled-more, packed-more, bitsFrom}
+use Rattle.matrixwriter.proofs.Spelled.{spelled-more, all-spelled, full-spelled, packed-more, bitsFrom}
 
 -- a word whose mark is 0 has no bytes
 pub unsent-put : (out : List ℕ) (place size mark word : ℕ) → mark ≡ 0 → out ≡ put out place (digits 256 (mark * size) word)
@@ -37,13 +41,20 @@ module _ (out₀ : List ℕ) (place : ℕ) where
   behind p q k at out out′ l room a e f = f ∙ rw (e, a, ← l) (put-put out₀ place p q (omega arith))
 
   module _ (size : ℕ) (words : List ℕ) where
-    pub words-put-next : (i at : ℕ) (out out′ : List ℕ) → place + i * size ≤ length out₀ → at ≡ place + i * size → out ≡ put out₀ place (spelled size (replicate i 1) words)
-        → out′ ≡ put out at (digits 256 size (getD words i 0)) → out′ ≡ put out₀ place (spelled size (replicate (i + 1) 1) words)
-    words-put-next i at out out′ room a e f =
-        rw (add-one, all-spelled-more size i words) (behind (spelled size (replicate i 1) words) (digits 256 size (getD words i 0)) (i * size) at out out′ (length-ones size i words) room a e f)
-
-    pub words-put-length : (i : ℕ) (out : List ℕ) → place + i * size ≤ length out₀ → out ≡ put out₀ place (spelled size (replicate i 1) words) → length out ≡ length out₀
-    words-put-length i out room e = ap length e ∙ length-put out₀ place (spelled size (replicate i 1) words) (omega (arith, length-ones size i words))
+    -- words written over the bytes from the place on
+    pub words-put : (number : ℕ) → size ≤ 8 → number ≤ length words → place + number * size ≤ length out₀ → (answer : Verdict) (left : List ℕ)
+        → WrittenOver (take (place + number * size - place) (drop place out₀)) size (take number words) answer left
+        → putMid place (place + number * size - place) out₀ left ≡ put out₀ place (spelled size (replicate number 1) words)
+    unfolding put
+    words-put number short there room answer left w =
+        let e : place + number * size - place ≡ number * size = omega arith in
+        let part = take (place + number * size - place) (drop place out₀) in
+        let given = take number words in
+        let as-many : length (take number words) ≡ number = length-take-le number words there in
+        let bytes : length (take (place + number * size - place) (drop place out₀)) ≡ number * size = rw e (length-take-le (number * size) (drop place out₀) (rw length-drop (omega arith))) in
+        let count : length (bytesFor size (take number words)) ≡ number * size = length-bytes size given ∙ ap (λ (k : ℕ). k * size) as-many in
+        let is = left-whole size (length given) (length part) (bytesFor size given) part answer left w short (bytes ∙ ap (λ (k : ℕ). k * size) (sym as-many)) (count ∙ sym bytes) in
+        rw (is, post-is {X = ℕ} place (place + number * size) out₀ (omega arith), ← all-spelled size number words there, count)
 
     module _ (marks : List ℕ) where
       pub sent-put-next : (i at : ℕ) (out out′ : List ℕ) → i < length marks → place + sum (take i marks) * size ≤ length out₀ → at ≡ place + sum (take i marks) * size → out ≡ put out₀ place (spelled size (take i marks) words)
@@ -62,6 +73,19 @@ module _ (marks : List ℕ) (size i : ℕ) where
 
   pub sent-with : i < length marks → sum (take (i + 1) marks) * size ≡ sum (take i marks) * size + getD marks i 0 * size
   sent-with h = rw (add-one, sum-more marks i h) (omega arith)
+
+-- of a full matrix all words are sent, or have no bytes
+module _ (size number : ℕ) (marks words : List ℕ) (there : number ≤ length marks) (all : (i : ℕ) → i < number → getD (take number marks) i 0 ≡ min 1 size) where
+  full-bytes : spelled size (take number marks) words ≡ spelled size (replicate number 1) words
+  full-bytes =
+      let l : length (take number marks) ≡ number = length-take-le number marks there in
+      full-spelled size (take number marks) words (λ i h. all i (omega arith)) ∙ ap (λ (k : ℕ). spelled size (replicate k 1) words) l
+
+  pub full-room : sum (take number marks) * size ≡ number * size
+  full-room = sym (length-spelled size (take number marks) words) ∙ ap length full-bytes ∙ length-ones size number words
+
+  pub full-put : (out out′ : List ℕ) (place : ℕ) → out′ ≡ put out place (spelled size (replicate number 1) words) → out′ ≡ put out place (spelled size (take number marks) words)
+  full-put out out′ place e = rw full-bytes e
 
 -- ---- the bit vector
 

@@ -11,11 +11,13 @@ use lib.Dec.{eqb}
 use lib.ListN.{length, take, drop, getD, replicate, length-append}
 use lib.Seq.{drop-drop, getD-drop}
 use Rattle.word.specs.Digits.{digits, valueOf}
+use Rattle.word.specs.Many.{bytesFor}
 use Rattle.word.proofs.Digits.{value-more, value-take-below}
 use Rattle.matrix.specs.declared.Fields.{Fields}
 use Rattle.matrix.specs.Spelling.{packed, spelled}
 use Rattle.matrixwriter.specs.Given.{sentWords, deviationMarks}
 use Rattle.matrixwriter.proofs.Entries.{next-entry}
+use Rattle.matrixwriter.proofs.Fitting.{all-same}
 use Rattle.matrix.proofs.BitVector.{getD-zeros}
 
 -- ---- words
@@ -43,6 +45,13 @@ module _ (size : ℕ) where
   unfolding spelled sentWords
   spelled-sent none [] words = refl
   spelled-sent none (mark ∷ marks) words = ap₂ (λ (x y : List ℕ). x ++ y) (word-sent none mark (getD words 0 0)) (spelled-sent none marks (drop 1 words))
+
+-- as bytes of words one after the other
+pub all-spelled : (size number : ℕ) (words : List ℕ) → number ≤ length words → bytesFor size (take number words) ≡ spelled size (replicate number 1) words
+unfolding spelled bytesFor
+all-spelled size zero words h = refl
+all-spelled size (suc number) [] h = absurd (omega arith)
+all-spelled size (suc number) (word ∷ words) h = rw (one-mul size) (ap (λ (bs : List ℕ). digits 256 size word ++ bs) (all-spelled size number words (omega arith)))
 
 -- words without bytes
 pub spelled-none : (marks words : List ℕ) → spelled 0 marks words ≡ []
@@ -88,3 +97,9 @@ module _ (marks : List ℕ) (pair : ℕ) where
 
   pub bits-small : (i : ℕ) → i ≤ 8 → ((k : ℕ) → getD marks k 0 ≤ 1) → valueOf 2 (take i bitsFrom) < 256
   bits-small i h most = omega (arith, value-take-below 2 i bitsFrom (λ k. rw (bit-at k) (omega (arith, most (pair + k)))), pow-le-pow-right {n = 2} (omega arith) {i = i} {j = 8} h)
+
+-- the words of a full matrix are all sent, or have no bytes
+pub full-spelled : (size : ℕ) (marks words : List ℕ) → ((i : ℕ) → i < length marks → getD marks i 0 ≡ min 1 size) → spelled size marks words ≡ spelled size (replicate (length marks) 1) words
+full-spelled zero marks words all = spelled-none marks words ∙ sym (spelled-none (replicate (length marks) 1) words)
+full-spelled (suc size) marks words all =
+    ap (λ (ms : List ℕ). spelled (suc size) ms words) (all-same 1 marks (λ i h. omega (arith, all i h)))

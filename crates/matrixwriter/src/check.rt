@@ -1,12 +1,12 @@
 // Whether what the writer is given keeps the rules, in document 01's order.
 ghost use mathlib.Core.Path.{_≡_};
-ghost use mathlib.Core.Bool.{cond};
+ghost use mathlib.Core.Bool.{true, cond};
 ghost use mathlib.Core.List.{_++_};
 ghost use Prim.Native.Nat.{_≤_, min};
 ghost use lib.ListN.{length, take, replicate};
 ghost use Rattle.rule.specs.Rules.{deviationRule, coefficientRule};
 ghost use Rattle.matrix.specs.Meaning.{pairs, sum, LawfulFields};
-ghost use Rattle.matrixwriter.specs.Given.{deviationMarks, sentFit, disagreeRows, valueRows, givenRows};
+ghost use Rattle.matrixwriter.specs.Given.{deviationMarks, marksFit, sentFit, disagreeRows, valueRows, givenRows};
 ghost use Rattle.matrixwriter.specs.Checking.{markedOf, checkedOf, Enough};
 use matrix::Fields;
 use matrixhead::judge::judge_fields;
@@ -51,26 +51,49 @@ fn least_of(sparse: bool, most: u8) -> u8
     if sparse { 0 } else { most }
 }
 
-// The marks of so many pairs.
-fn marks_of(f: Fields, marks: &[u8], count: usize) -> Marked
-    requires { ⌜ (count ≤ length (now marks)) × (count ≤ 2016) ⌝ }
-    ensures { λ r. ⌜ r ≡ markedOf f (take count (now (marks .entry))) ⌝ }
+// Whether the marks of so many pairs fit.
+fn marks_fit(f: Fields, marks: &[u8], count: usize) -> bool
+    requires { ⌜ count ≤ length (now marks) ⌝ }
+    ensures { λ r. ⌜ r ≡ marksFit f (take count (now (marks .entry))) ⌝ }
 {
     let most = mark_of(f.clen);
     let least = least_of(f.cs, most);
     let mut fit = true;
-    let mut sent: usize = 0;
     let mut i = 0;
     while i < count {
         let mark = marks[i];
         fit = fit & ((least <= mark) & (mark <= most));
-        sent += mark as usize;
         i += 1;
     }
-    if fit {
-        return Marked::Fit(sent);
+    fit
+}
+
+// How many of so many marks are 1, where none is greater.
+fn sum_of(marks: &[u8], count: usize) -> usize
+    requires { ⌜ (count ≤ length (now marks)) × (count ≤ 2016) ⌝ }
+    ensures { λ r. ⌜ r ≡ sum (take count (now (marks .entry))) ⌝ }
+{
+    let mut sent: usize = 0;
+    let mut i = 0;
+    while i < count {
+        sent += marks[i] as usize;
+        i += 1;
     }
-    Marked::Unfit
+    sent
+}
+
+// How many coefficients are sent: by the marks if sparse, else all that have bytes.
+fn marks_of(f: Fields, marks: &[u8], count: usize) -> Marked
+    requires { ⌜ (count ≤ length (now marks)) × (count ≤ 2016) ⌝ }
+    ensures { λ r. ⌜ r ≡ markedOf f (take count (now (marks .entry))) ⌝ }
+{
+    if !marks_fit(f, marks, count) {
+        return Marked::Unfit;
+    }
+    if f.cs {
+        return Marked::Fit(sum_of(marks, count));
+    }
+    Marked::Fit(count * mark_of(f.clen) as usize)
 }
 
 // Whether so many words keep a rule.
@@ -78,13 +101,14 @@ fn words_fit(rule: Rule, words: &[u64], count: usize) -> bool
     requires { ⌜ count ≤ length (now words) ⌝ }
     ensures { λ r. ⌜ r ≡ sentFit rule (replicate count 1) (now (words .entry)) ⌝ }
 {
-    let mut fit = true;
     let mut i = 0;
     while i < count {
-        fit = fit & rule.admits(words[i]);
+        if !rule.admits(words[i]) {
+            return false;
+        }
         i += 1;
     }
-    fit
+    true
 }
 
 // Whether those of so many words that are sent keep a rule.
@@ -92,13 +116,14 @@ fn sent_fit(rule: Rule, words: &[u64], marks: &[u8], count: usize) -> bool
     requires { ⌜ (count ≤ length (now words)) × (count ≤ length (now marks)) ⌝ }
     ensures { λ r. ⌜ r ≡ sentFit rule (take count (now (marks .entry))) (now (words .entry)) ⌝ }
 {
-    let mut fit = true;
     let mut i = 0;
     while i < count {
-        fit = fit & ((marks[i] == 0) | rule.admits(words[i]));
+        if !((marks[i] == 0) | rule.admits(words[i])) {
+            return false;
+        }
         i += 1;
     }
-    fit
+    true
 }
 
 fn deviations_fit(f: Fields, deviations: &[u64]) -> bool
@@ -115,13 +140,33 @@ fn deviations_fit(f: Fields, deviations: &[u64]) -> bool
     }
 }
 
+fn coefficients_keep(
+    f: Fields,
+    rule: Rule,
+    coefficients: &[u64],
+    marks: &[u8],
+    count: usize,
+) -> bool
+    requires { ⌜ (count ≤ length (now coefficients)) × ((count ≤ length (now marks)) × ((marksFit f (take count (now marks)) ≡ true) × (1 ≤ f .clen))) ⌝ }
+    ensures { λ r. ⌜ r ≡ sentFit rule (take count (now (marks .entry))) (now (coefficients .entry)) ⌝ }
+{
+    if f.cs {
+        return sent_fit(rule, coefficients, marks, count);
+    }
+    words_fit(rule, coefficients, count)
+}
+
+// Whether the coefficients that are sent keep their rule: by the marks if sparse, else all that have bytes.
 fn coefficients_fit(f: Fields, coefficients: &[u64], marks: &[u8], count: usize) -> bool
-    requires { ⌜ LawfulFields f × ((count ≤ length (now coefficients)) × (count ≤ length (now marks))) ⌝ }
+    requires { ⌜ LawfulFields f × ((count ≤ length (now coefficients)) × ((count ≤ length (now marks)) × (marksFit f (take count (now marks)) ≡ true))) ⌝ }
     ensures { λ r. ⌜ r ≡ sentFit (coefficientRule (f .cf) (f .clen)) (take count (now (marks .entry))) (now (coefficients .entry)) ⌝ }
 {
+    if f.clen == 0 {
+        return true;
+    }
     let ruled = coefficient_rule(f.cf, f.clen);
     match ruled {
-        Ruled::By(rule) => sent_fit(rule, coefficients, marks, count),
+        Ruled::By(rule) => coefficients_keep(f, rule, coefficients, marks, count),
         Ruled::Refused(_) => false,
     }
 }
@@ -134,7 +179,7 @@ fn check_values(
     coefficients: &[u64],
     marks: &[u8],
 ) -> Checked
-    requires { ⌜ LawfulFields f × (Enough f (now deviations) (now coefficients) (now marks) × (sent ≡ sum (take (pairs (f .n)) (now marks)))) ⌝ }
+    requires { ⌜ LawfulFields f × (Enough f (now deviations) (now coefficients) (now marks) × ((sent ≡ sum (take (pairs (f .n)) (now marks))) × (marksFit f (take (pairs (f .n)) (now marks)) ≡ true))) ⌝ }
     ensures { λ r. ⌜ r ≡ checkedOf (valueRows f (now (deviations .entry)) (now (coefficients .entry)) (now (marks .entry))) sent ⌝ }
 {
     if f.cs & ((f.slen == 0) & (sent == 0)) {

@@ -1,8 +1,8 @@
 // The bytes of a lawful pack, put one after the other where there is room.
 ghost use mathlib.Core.Path.{_≡_};
-ghost use mathlib.Core.Bool.{cond};
+ghost use mathlib.Core.Bool.{false, cond};
 ghost use mathlib.Core.List.{[], _∷_, _++_};
-ghost use Prim.Native.Nat.{ℕ, _+_, _*_, _/_, _^_, _≤_, _<_};
+ghost use Prim.Native.Nat.{ℕ, _+_, _*_, _/_, _^_, _≤_, _<_, min};
 ghost use lib.ListN.{length as count, take, drop, replicate, getD};
 ghost use Rattle.verdict.specs.Writing.{put, roomRows, WrittenBy};
 ghost use Rattle.word.specs.Digits.{digits, valueOf};
@@ -16,6 +16,7 @@ use verdict::Reason;
 use verdict::Refusal;
 use verdict::Verdict;
 use word::bytes::write_at;
+use word::many::write_all;
 
 // A word in so many bytes at a place.
 fn put_word(out: &mut [u8], place: usize, length: usize, word: u64)
@@ -94,16 +95,11 @@ fn put_vector(out: &mut [u8], marks: &[u8], pairs: usize, bytes: usize)
 
 // So many words of a length, one after the other.
 fn put_words(out: &mut [u8], place: usize, length: usize, words: &[u64], number: usize)
-    requires { ⌜ Sendable length (replicate number 1) (now words) × ((number ≤ count (now words)) × (place + number * length ≤ count (now out))) ⌝ }
+    requires { ⌜ (length ≤ 8) × ((number ≤ count (now words)) × (place + number * length ≤ count (now out))) ⌝ }
     ensures { λ _. ⌜ now (out .exit) ≡ put (now (out .entry)) place (spelled length (replicate number 1) (now (words .entry))) ⌝ }
 {
-    let mut at = place;
-    let mut i = 0;
-    while i < number {
-        put_word(out, at, length, words[i]);
-        at += length;
-        i += 1;
-    }
+    let end = place + number * length;
+    write_all(&mut out[place..end], length, &words[..number]);
 }
 
 // Those of so many words whose mark is 1, one after the other.
@@ -126,6 +122,26 @@ fn put_sent_words(
         at += mark as usize * length;
         i += 1;
     }
+}
+
+// The coefficients: those whose mark is 1 if sparse, else all, or none has bytes.
+fn put_coefficients(
+    sparse: bool,
+    out: &mut [u8],
+    place: usize,
+    length: usize,
+    words: &[u64],
+    marks: &[u8],
+    number: usize,
+)
+    requires { ⌜ Sendable length (take number (now marks)) (now words) × ((number ≤ count (now words)) × ((number ≤ count (now marks)) × ((place + sum (take number (now marks)) * length ≤ count (now out)) × (sparse ≡ false → (i : ℕ) → i < number → getD (take number (now marks)) i 0 ≡ min 1 length)))) ⌝ }
+    ensures { λ _. ⌜ now (out .exit) ≡ put (now (out .entry)) place (spelled length (take number (now (marks .entry))) (now (words .entry))) ⌝ }
+{
+    if sparse {
+        put_sent_words(out, place, length, words, marks, number);
+        return;
+    }
+    put_words(out, place, length, words, number);
 }
 
 // How many bytes the bit vector takes.
@@ -168,7 +184,7 @@ fn put_given(f: Fields, deviations: &[u64], coefficients: &[u64], marks: &[u8], 
     put_header(f, out);
     put_vector(out, marks, pairs, vector);
     put_deviations(f, deviations, out, first);
-    put_sent_words(out, second, f.clen, coefficients, marks, pairs);
+    put_coefficients(f.cs, out, second, f.clen, coefficients, marks, pairs);
 }
 
 // Writes what is lawful, where there is room.

@@ -61,7 +61,8 @@ check-values-requires c κs =
     let o = m .before .before in
     let s = start (o .before) in
     let a = s .args in
-    (s .pre, (enough (o .before), fit-marked (a .f) (take (pairs (a .f .n)) (now (a .marks))) (m .marked .given .0 .0) (sym (marked o) ∙ m .marked .given .1) .1))
+    let f = fit-marked (a .f) (take (pairs (a .f .n)) (now (a .marks))) (m .marked .given .0 .0) (sym (marked o) ∙ m .marked .given .1) in
+    (s .pre, (enough (o .before), (f .1, f .0)))
 
 enum-told : tie.Need-enum-told
 enum-told c = search needs

@@ -1,20 +1,22 @@
--- `matrixwriter::check::words_fit` meets its contract. The loop's invariant: whether the first `i` words keep the rule. Assumes nothing.
+-- `matrixwriter::check::words_fit` meets its contract. The loop's invariant: the first `i` words keep the rule. Assumes nothing.
 use Prim.Native.Nat.{_-_, _≤_}
-use mathlib.Core.Path.{_≡_, refl, _∙_}
+use mathlib.Core.Path.{_≡_, refl, sym, _∙_}
+use mathlib.Core.Bool.{true}
 use native.Mathlib.Omega.{arith}
+use borrow.Author.Tests.{not-true, not-false}
 use denote.Ref.{now}
 use lib.ListN.{replicate}
 use Rattle.matrixwriter.specs.Given.{sentFit}
-use Rattle.matrixwriter.proofs.Fitting.{all-fit-next}
+use Rattle.matrixwriter.proofs.Fitting.{all-fit-next, all-broken}
 use borrow.Author.Needs.{needs}
 use Rattle.matrixwriter.proofs.check.words_fit.Statement.{statement}
 use Rattle.matrixwriter.proofs.check.words_fit.Tie as tie
 
 abbrev Inv-loop : tie.InvT-loop
-Inv-loop rule words count fit₀ i₀ fit i = (i ≤ count) × (fit ≡ sentFit rule (replicate i 1) words)
+Inv-loop rule words count i₀ i = (i ≤ count) × (true ≡ sentFit rule (replicate i 1) words)
 
 abbrev μ-loop : tie.MeasureT-loop
-μ-loop rule words count fit₀ i₀ fit i = count - i
+μ-loop rule words count i₀ i = count - i
 
 loop-holds : tie.Need-loop-holds Inv-loop μ-loop
 unfolding sentFit
@@ -29,6 +31,11 @@ shared-slice-read-admits c = search needs
 admits-requires : tie.Need-admits-requires Inv-loop μ-loop
 admits-requires c κs = search needs
 
+returns : tie.Need-returns Inv-loop μ-loop
+returns c = let l = c .before .before .before .before in
+    let a = l .before .before .args in
+    all-broken (a .rule) (now (a .words)) (l .loop .i) (a .count) (c .before .before .before .loop-test .taken) (sym (c .before .admits .ensures) ∙ not-true _ (c .if1 .taken))
+
 add-i : tie.Need-add-i Inv-loop μ-loop
 add-i c = search needs
 
@@ -36,17 +43,28 @@ loop-less : tie.Need-loop-less Inv-loop μ-loop
 loop-less c = search needs
 
 loop-again : tie.Need-loop-again Inv-loop μ-loop
-loop-again c =
-    let l = c .before .before .before in
+loop-again c = let l = c .before .before .before .before in
     let a = l .before .before .args in
-    (omega arith, all-fit-next (a .rule) (now (a .words)) (l .loop .i) (l .loop .fit) (c .admits .result) (l .loop .inv .1) (c .admits .ensures))
+    (omega arith, all-fit-next (a .rule) (now (a .words)) (l .loop .i) (l .loop .inv .1) (sym (c .before .admits .ensures) ∙ not-false _ (c .if1 .left)))
 
-returns : tie.Need-returns Inv-loop μ-loop
-returns c =
-    let a = c .before .before .before .args in
-    let l = c .before .loop in
-    let e : l .i ≡ a .count = omega (arith, l .inv .0, c .loop-test .left) in
-    l .inv .1 ∙ rw e
+returns-2 : tie.Need-returns-2 Inv-loop μ-loop
+returns-2 c = let l = c .before in
+    let a = l .before .before .args in
+    let e : l .loop .i ≡ a .count = omega (arith, l .loop .inv .0, c .loop-test .left) in
+    l .loop .inv .1 ∙ rw e
 
 pub words-fit-spec : {M : Type 1} → statement M
-words-fit-spec = tie.close (tie.spec Inv-loop μ-loop loop-holds mul-admits shared-slice-read-admits admits-requires add-i loop-less loop-again returns)
+words-fit-spec =
+    tie.close
+    (tie.spec
+    Inv-loop
+    μ-loop
+    loop-holds
+    mul-admits
+    shared-slice-read-admits
+    admits-requires
+    returns
+    add-i
+    loop-less
+    loop-again
+    returns-2)

@@ -18,7 +18,7 @@ put-words-requires : tie.Need-put-words-requires
 put-words-requires c κs =
     let s = c .before .before .before .before .before in
     let some : 0 < s .args .f .slen = omega (arith, c .before .if1 .left) in
-    (s .pre .0 .sendable some, (s .pre .0 .enough, s .pre .1))
+    (s .pre .0 .sendable some .short, (s .pre .0 .enough, s .pre .1))
 
 same-length : tie.Need-same-length
 same-length c = search needs

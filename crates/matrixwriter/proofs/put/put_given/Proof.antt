@@ -1,5 +1,5 @@
 -- `matrixwriter::put::put_given` meets its contract: each part has room behind the one before. Assumes nothing.
-use Prim.Native.Nat.{ℕ, _+_, _*_, _≤_}
+use Prim.Native.Nat.{ℕ, _+_, _*_, _≤_, _<_, min}
 use mathlib.Core.Path.{_≡_, refl, sym, ap, subst}
 use native.Mathlib.Omega.{arith}
 use denote.Ref.{now}
@@ -70,15 +70,18 @@ put-deviations-requires c κs =
     let a = s v .args in
     (deviations-sendable (a .f) (now (a .deviations)) (now (a .coefficients)) (now (a .marks)) (s v .pre .0) (lawful v), omega (arith, room v))
 
-put-sent-words-requires : tie.Need-put-sent-words-requires
-put-sent-words-requires c κs =
+put-coefficients-requires : tie.Need-put-coefficients-requires
+put-coefficients-requires c κs =
     let v = c .before .before .before .before .before .before .before .before .before .before .before .before .before .before in
     let a = s v .args in
     let sendable = coefficients-sendable (a .f) (now (a .deviations)) (now (a .coefficients)) (now (a .marks)) (s v .pre .0) (lawful v) in (
       subst (λ (k : ℕ). Sendable (a .f .clen) (take k (now (a .marks))) (now (a .coefficients))) (sym (pairs-are v)) sendable,
       (
         omega (arith, pairs-are v, s v .pre .0 .coefficients-enough),
-        (omega (arith, pairs-are v, s v .pre .0 .marks-enough), omega (arith, room v, ap (λ (k : ℕ). sum (take k (now (a .marks))) * a .f .clen) (pairs-are v))),
+        (
+          omega (arith, pairs-are v, s v .pre .0 .marks-enough),
+          (omega (arith, room v, ap (λ (k : ℕ). sum (take k (now (a .marks))) * a .f .clen) (pairs-are v)), λ full. subst (λ (k : ℕ). (i : ℕ) → i < k → getD (take k (now (a .marks))) i 0 ≡ min 1 (a .f .clen)) (sym (pairs-are v)) (lawful v .values .all-sent full)),
+        ),
       ),
     )
 
@@ -93,10 +96,10 @@ returns c =
     let one = two .before .before .before .before in
     let v = one .before .before .before in
     let a = s v .args in
-    parts-put (a .f) (now (a .deviations)) (now (a .coefficients)) (now (a .marks)) (now (a .out)) (one .put-header .last .1 .0) (two .put-vector .last .0) (three .put-deviations .last .1 .1 .0) (four .put-sent-words .last .0)
-    (v .before .pairs-of .result) (v .vector-bytes .result) _ _ (s v .pre .1 .1) (pairs-are v) (vector-bytes-are v) refl refl (one .put-header .ensures) (two .put-vector .ensures) (three .put-deviations .ensures) (four .put-sent-words .ensures)
+    parts-put (a .f) (now (a .deviations)) (now (a .coefficients)) (now (a .marks)) (now (a .out)) (one .put-header .last .1 .0) (two .put-vector .last .0) (three .put-deviations .last .1 .1 .0) (four .put-coefficients .last .1 .0)
+    (v .before .pairs-of .result) (v .vector-bytes .result) _ _ (s v .pre .1 .1) (pairs-are v) (vector-bytes-are v) refl refl (one .put-header .ensures) (two .put-vector .ensures) (three .put-deviations .ensures) (four .put-coefficients .ensures)
 
 pub put-given-spec : {M : Type 1} → statement M
 put-given-spec =
     tie.close
-    (tie.spec pairs-of-requires vector-bytes-requires add-first mul-second add-second put-header-requires put-vector-requires put-deviations-requires put-sent-words-requires same-length returns)
+    (tie.spec pairs-of-requires vector-bytes-requires add-first mul-second add-second put-header-requires put-vector-requires put-deviations-requires put-coefficients-requires same-length returns)
