@@ -229,6 +229,18 @@ static void store_vector(uint8_t *out, const uint8_t *marks, size_t m) {
     }
 }
 
+static int words_fit(const struct rule *rule, const uint64_t *words, size_t number) {
+    for (size_t i = 0; i < number; i++)
+        if ((words[i] & ~rule->sign) > rule->greatest) return 0;
+    return 1;
+}
+
+static int sent_fit(const struct rule *rule, const uint64_t *words, const uint8_t *marks, size_t number) {
+    for (size_t i = 0; i < number; i++)
+        if (marks[i] && (words[i] & ~rule->sign) > rule->greatest) return 0;
+    return 1;
+}
+
 uint64_t best_matrix_write(const size_t *given, size_t given_count, const uint64_t *deviations, size_t deviations_count,
                            const uint64_t *coefficients, size_t coefficients_count, const uint8_t *marks, size_t marks_count,
                            uint8_t *out, size_t out_count) {
@@ -239,16 +251,17 @@ uint64_t best_matrix_write(const size_t *given, size_t given_count, const uint64
     size_t m = pairs(f.n), v = f.cs ? (m + 7) / 8 : 0, sent = 0;
     if (deviations_count < f.n || coefficients_count < m || marks_count < m) return REFUSED(14, 0);
     uint8_t most = f.clen != 0, least = f.cs ? 0 : most, unfit = 0;
-    for (size_t i = 0; i < m; i++) unfit |= (marks[i] > most) | (marks[i] < least), sent += marks[i];
+    for (size_t i = 0; i < m; i++) unfit |= (marks[i] > most) | (marks[i] < least);
     if (unfit) return REFUSED(14, 0);
+    if (f.cs)
+        for (size_t i = 0; i < m; i++) sent += marks[i];
+    else
+        sent = m * most;
     if (f.cs && f.slen == 0 && sent == 0) return REFUSED(9, 0);
     struct rule rule = deviation_rule(f.sf, f.slen);
-    uint64_t over = 0;
-    if (f.slen)
-        for (size_t i = 0; i < f.n; i++) over |= (deviations[i] & ~rule.sign) > rule.greatest;
+    if (f.slen && !words_fit(&rule, deviations, f.n)) return REFUSED(11, 0);
     rule = coefficient_rule(f.cf, f.clen);
-    for (size_t i = 0; i < m; i++) over |= marks[i] & ((coefficients[i] & ~rule.sign) > rule.greatest);
-    if (over) return REFUSED(11, 0);
+    if (f.cs ? !sent_fit(&rule, coefficients, marks, m) : f.clen && !words_fit(&rule, coefficients, m)) return REFUSED(11, 0);
     size_t length = 3 + v + f.n * f.slen + sent * f.clen, at = 3 + v;
     if (out_count < length) return REFUSED(13, 0);
     out[0] = f.n;

@@ -5,14 +5,14 @@ use mathlib.Core.Bool.{Bool, true, false, not, _&&_, _||_, cond, and-true, and-f
 use mathlib.Core.List.{List, [], _∷_}
 use native.Mathlib.Numerals.{add-one}
 use native.Mathlib.Omega.{arith}
-use borrow.Author.Tests.{not-true, not-false}
+use borrow.Author.Tests.{not-true, not-false, le-leb, lt-leb}
 use lib.Dec.{eqb, leb}
 use lib.ListN.{length, take, drop, getD, replicate, length-replicate, getD-replicate}
 use lib.Seq.{length-take-le}
 use Rattle.verdict.specs.declared.Refusal.{Refusal}
 use Rattle.rule.specs.declared.rules.Rule.{Rule}
 use Rattle.rule.specs.declared.rules.Ruled.the-variants.{By, Refused}
-use Rattle.rule.specs.Rules.{admitted, allowed, ruledBy}
+use Rattle.rule.specs.Rules.{admitted, cleared, allowed, ruledBy}
 use Rattle.matrix.specs.declared.Fields.{Fields}
 use Rattle.matrix.specs.Meaning.{sum}
 use Rattle.matrix.proofs.BitVector.{sum-same}
@@ -78,6 +78,9 @@ module _ (f : Fields) (marks : List ℕ) where
       go false e = refl
 
 module _ (rule : Rule) where
+  unsigned-cleared : rule .sign ≡ 0 → (word : ℕ) → cleared (rule .sign) word ≡ word
+  unsigned-cleared e word = rw (e, le-leb 0 word (omega arith)) (omega arith)
+
   pub sent-fit-more : (marks words : List ℕ) (i : ℕ) → i < length marks → sentFit rule (take (suc i) marks) words ≡ sentFit rule (take i marks) words && (eqb (getD marks i 0) 0 || admitted rule (getD words i 0))
   unfolding sentFit
   sent-fit-more [] words i h = absurd (omega arith)
@@ -107,6 +110,13 @@ module _ (rule : Rule) where
 
   pub all-broken : (words : List ℕ) (i count : ℕ) → i < count → admitted rule (getD words i 0) ≡ false → false ≡ sentFit rule (replicate count 1) words
   all-broken words i count h e = sent-broken (replicate count 1) words i (rw length-replicate h) (rw (getD-replicate {A = ℕ} count i 1 0 h) e)
+
+  -- without a sign a word is compared as it is
+  pub unsigned-keeps : rule .sign ≡ 0 → (word : ℕ) → word ≤ rule .greatest → admitted rule word ≡ true
+  unsigned-keeps e word h = rw (unsigned-cleared e word) (le-leb word (rule .greatest) h)
+
+  pub unsigned-breaks : rule .sign ≡ 0 → (word : ℕ) → rule .greatest < word → admitted rule word ≡ false
+  unsigned-breaks e word h = rw (unsigned-cleared e word) (lt-leb word (rule .greatest) h)
 
   -- none is sent
   pub none-fit : (n : ℕ) (words : List ℕ) → sentFit rule (replicate n 0) words ≡ true

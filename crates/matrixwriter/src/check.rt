@@ -96,8 +96,23 @@ fn marks_of(f: Fields, marks: &[u8], count: usize) -> Marked
     Marked::Fit(count * mark_of(f.clen) as usize)
 }
 
+// Whether so many words keep a rule that has no sign.
+fn unsigned_fit(rule: Rule, words: &[u64], count: usize) -> bool
+    requires { ⌜ (count ≤ length (now words)) × (rule .sign ≡ 0) ⌝ }
+    ensures { λ r. ⌜ r ≡ sentFit rule (replicate count 1) (now (words .entry)) ⌝ }
+{
+    let mut i = 0;
+    while i < count {
+        if rule.greatest < words[i] {
+            return false;
+        }
+        i += 1;
+    }
+    true
+}
+
 // Whether so many words keep a rule.
-fn words_fit(rule: Rule, words: &[u64], count: usize) -> bool
+fn signed_fit(rule: Rule, words: &[u64], count: usize) -> bool
     requires { ⌜ count ≤ length (now words) ⌝ }
     ensures { λ r. ⌜ r ≡ sentFit rule (replicate count 1) (now (words .entry)) ⌝ }
 {
@@ -109,6 +124,17 @@ fn words_fit(rule: Rule, words: &[u64], count: usize) -> bool
         i += 1;
     }
     true
+}
+
+// Whether so many words keep a rule; one without a sign wants less of each.
+fn words_fit(rule: Rule, words: &[u64], count: usize) -> bool
+    requires { ⌜ count ≤ length (now words) ⌝ }
+    ensures { λ r. ⌜ r ≡ sentFit rule (replicate count 1) (now (words .entry)) ⌝ }
+{
+    if rule.sign == 0 {
+        return unsigned_fit(rule, words, count);
+    }
+    signed_fit(rule, words, count)
 }
 
 // Whether those of so many words that are sent keep a rule.

@@ -1,4 +1,4 @@
--- `matrixwriter::check::words_fit` meets its contract. The loop's invariant: the first `i` words keep the rule. Assumes nothing.
+-- `matrixwriter::check::signed_fit` meets its contract. The loop's invariant: the first `i` words keep the rule. Assumes nothing.
 use Prim.Native.Nat.{_-_, _≤_}
 use mathlib.Core.Path.{_≡_, refl, sym, _∙_}
 use mathlib.Core.Bool.{true}
@@ -9,8 +9,8 @@ use lib.ListN.{replicate}
 use Rattle.matrixwriter.specs.Given.{sentFit}
 use Rattle.matrixwriter.proofs.Fitting.{all-fit-next, all-broken}
 use borrow.Author.Needs.{needs}
-use Rattle.matrixwriter.proofs.check.words_fit.Statement.{statement}
-use Rattle.matrixwriter.proofs.check.words_fit.Tie as tie
+use Rattle.matrixwriter.proofs.check.signed_fit.Statement.{statement}
+use Rattle.matrixwriter.proofs.check.signed_fit.Tie as tie
 
 abbrev Inv-loop : tie.InvT-loop
 Inv-loop rule words count i₀ i = (i ≤ count) × (true ≡ sentFit rule (replicate i 1) words)
@@ -53,8 +53,8 @@ returns-2 c = let l = c .before in
     let e : l .loop .i ≡ a .count = omega (arith, l .loop .inv .0, c .loop-test .left) in
     l .loop .inv .1 ∙ rw e
 
-pub words-fit-spec : {M : Type 1} → statement M
-words-fit-spec =
+pub signed-fit-spec : {M : Type 1} → statement M
+signed-fit-spec =
     tie.close
     (tie.spec
     Inv-loop
