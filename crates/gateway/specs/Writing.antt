@@ -10,7 +10,8 @@ use Rattle.verdict.specs.Rows.{Row}
 use Rattle.verdict.specs.Writing.{WrittenBy}
 use Rattle.matrix.specs.declared.Fields.{Fields}
 use Rattle.matrix.specs.Spelling.{bytesOf as matrixBytes}
-use Rattle.matrixwriter.specs.Given.{meaningGiven as matrixGiven, writerRows as matrixRows}
+use Rattle.matrixcheck.specs.Given.{meaningGiven as matrixGiven}
+use Rattle.matrixwriter.specs.Writing.{writerRows as matrixRows}
 use Rattle.array.specs.Spelling.{bytesOf as arrayBytes}
 use Rattle.arraywriter.specs.Given.{meaningGiven as arrayGiven, writerRows as arrayRows}
 

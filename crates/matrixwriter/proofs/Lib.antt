@@ -1,8 +1,4 @@
-pub mod Entries
-pub mod Given
 pub mod RoundTrip
-pub mod Fitting
-pub mod Checking
 pub mod Spelled
 pub mod Putting
 pub mod Parts

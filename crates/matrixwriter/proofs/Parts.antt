@@ -17,10 +17,11 @@ use Rattle.matrix.proofs.ControlBytes.{clen-small, slen-small}
 use Rattle.matrix.proofs.Decoding.{length-ones, pack-length}
 use Rattle.matrix.proofs.Pairs.{pairs-most}
 use Rattle.matrix.proofs.WordRuns.{getD-ones}
-use Rattle.matrixwriter.specs.Given.{meaningGiven}
-use Rattle.matrixwriter.specs.Checking.{Enough, Sendable, Deviated}
-use Rattle.matrixwriter.proofs.Entries.{sent-at}
-use Rattle.matrixwriter.proofs.Given.{deviation-here, mark-within}
+use Rattle.matrixcheck.specs.Given.{meaningGiven}
+use Rattle.matrixcheck.specs.Checking.{Enough}
+use Rattle.matrixwriter.specs.Sending.{Sendable, Deviated}
+use Rattle.matrixcheck.proofs.Entries.{sent-at}
+use Rattle.matrixcheck.proofs.Given.{deviation-here, mark-within}
 use Rattle.matrixwriter.proofs.Spelled.{spelled-sent, deviationBytes}
 use Rattle.matrixwriter.proofs.Putting.{behind}
 

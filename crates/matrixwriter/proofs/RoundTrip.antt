@@ -25,10 +25,11 @@ use Rattle.matrix.proofs.Verdicts.{matrix-complete}
 use Rattle.matrix.proofs.Decoding.{meaning-back}
 use Rattle.matrix.proofs.Complete.{complete-meaning, complete-count}
 use Rattle.unpack.specs.Unpacking.{over, saidFor, leftFor, unpackShort, UnpackedFor, UnpackedBy}
-use Rattle.matrixwriter.specs.Given.{sentWords, deviationMarks, meaningGiven, givenRows, writerRows}
-use Rattle.matrixwriter.specs.Checking.{Enough}
-use Rattle.matrixwriter.proofs.Entries.{length-sent, sent-at}
-use Rattle.matrixwriter.proofs.Given.{given-lawful, lawful-given}
+use Rattle.matrixcheck.specs.Given.{sentWords, deviationMarks, meaningGiven, givenRows}
+use Rattle.matrixwriter.specs.Writing.{writerRows}
+use Rattle.matrixcheck.specs.Checking.{Enough}
+use Rattle.matrixcheck.proofs.Entries.{length-sent, sent-at}
+use Rattle.matrixcheck.proofs.Given.{given-lawful, lawful-given}
 
 module _ (f : Fields) (deviations coefficients marks out : List ℕ) where
   abbrev given : Matrix

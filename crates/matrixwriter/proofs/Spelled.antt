@@ -15,9 +15,9 @@ use Rattle.word.specs.Many.{bytesFor}
 use Rattle.word.proofs.Digits.{value-more, value-take-below}
 use Rattle.matrix.specs.declared.Fields.{Fields}
 use Rattle.matrix.specs.Spelling.{packed, spelled}
-use Rattle.matrixwriter.specs.Given.{sentWords, deviationMarks}
-use Rattle.matrixwriter.proofs.Entries.{next-entry}
-use Rattle.matrixwriter.proofs.Fitting.{all-same}
+use Rattle.matrixcheck.specs.Given.{sentWords, deviationMarks}
+use Rattle.matrixcheck.proofs.Entries.{next-entry}
+use Rattle.matrixcheck.proofs.Fitting.{all-same}
 use Rattle.matrix.proofs.BitVector.{getD-zeros}
 
 -- ---- words

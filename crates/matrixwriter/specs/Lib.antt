@@ -1,2 +1,2 @@
-pub mod Given
-pub mod Checking
+pub mod Sending
+pub mod Writing

@@ -1,15 +1,15 @@
 // Writing a matrix pack into a lent buffer: everything is checked before the first byte is written.
 ghost use Rattle.verdict.specs.Writing.{WrittenBy};
 ghost use Rattle.matrix.specs.Spelling.{bytesOf};
-ghost use Rattle.matrixwriter.specs.Given.{meaningGiven, writerRows};
-use crate::check::Checked;
-use crate::check::check;
+ghost use Rattle.matrixcheck.specs.Given.{meaningGiven};
+ghost use Rattle.matrixwriter.specs.Writing.{writerRows};
 use crate::put::write_given;
 use matrix::Fields;
+use matrixcheck::check::Checked;
+use matrixcheck::check::check;
 use verdict::Refusal;
 use verdict::Verdict;
 
-mod check;
 mod put;
 
 // The pack of these fields, deviations, coefficients and marks: the count of its bytes, or a refusal that leaves `out` as it was.

@@ -6,17 +6,25 @@ ghost use Prim.Native.Nat.{ℕ, _+_, _*_, _/_, _^_, _≤_, _<_, min};
 ghost use lib.ListN.{length as count, take, drop, replicate, getD};
 ghost use Rattle.verdict.specs.Writing.{put, roomRows, WrittenBy};
 ghost use Rattle.word.specs.Digits.{digits, valueOf};
-ghost use Rattle.matrix.specs.Meaning.{sum, LawfulFields, Lawful};
+ghost use Rattle.matrix.specs.Meaning.{pairs, sum, LawfulFields, Lawful};
 ghost use Rattle.matrix.specs.Spelling.{control1, control2, vectorBytes, packed, spelled, bytesOf};
-ghost use Rattle.matrixwriter.specs.Given.{sentWords, deviationMarks, meaningGiven};
-ghost use Rattle.matrixwriter.specs.Checking.{Enough, LawfulGiven, Sendable, Deviated};
-use crate::check::pairs_of;
+ghost use Rattle.matrixcheck.specs.Given.{sentWords, deviationMarks, meaningGiven};
+ghost use Rattle.matrixcheck.specs.Checking.{Enough};
+ghost use Rattle.matrixwriter.specs.Sending.{LawfulGiven, Sendable, Deviated};
 use matrix::Fields;
 use verdict::Reason;
 use verdict::Refusal;
 use verdict::Verdict;
 use word::bytes::write_at;
 use word::many::write_all;
+
+// M, how many pairs of variables there are.
+fn pairs_of(n: usize) -> usize
+    requires { ⌜ (1 ≤ n) × (n ≤ 64) ⌝ }
+    ensures { λ r. ⌜ r ≡ pairs n ⌝ }
+{
+    n * (n - 1) / 2
+}
 
 // A word in so many bytes at a place.
 fn put_word(out: &mut [u8], place: usize, length: usize, word: u64)

@@ -10,9 +10,9 @@ use Rattle.verdict.proofs.Judging.{Kept}
 use Rattle.verdict.proofs.Deciding.{written-on, written-off}
 use Rattle.matrix.specs.Meaning.{pairs, sum}
 use Rattle.matrix.specs.Spelling.{bytesOf}
-use Rattle.matrixwriter.specs.Given.{meaningGiven, givenRows}
-use Rattle.matrixwriter.proofs.Given.{given-lawful}
-use Rattle.matrixwriter.proofs.Checking.{checked-kept, checked-blamed}
+use Rattle.matrixcheck.specs.Given.{meaningGiven, givenRows}
+use Rattle.matrixcheck.proofs.Given.{given-lawful}
+use Rattle.matrixcheck.proofs.Checking.{checked-kept, checked-blamed}
 use borrow.Author.Needs.{needs}
 use Rattle.matrixwriter.proofs.write.Statement.{statement}
 use Rattle.matrixwriter.proofs.write.Tie as tie

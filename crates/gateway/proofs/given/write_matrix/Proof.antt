@@ -10,7 +10,8 @@ use Rattle.verdict.proofs.Deciding.{written-on, written-off}
 use Rattle.verdict.specs.Writing.{WrittenBy}
 use Rattle.matrix.specs.declared.Fields.{Fields}
 use Rattle.matrix.specs.Spelling.{bytesOf}
-use Rattle.matrixwriter.specs.Given.{meaningGiven, writerRows}
+use Rattle.matrixcheck.specs.Given.{meaningGiven}
+use Rattle.matrixwriter.specs.Writing.{writerRows}
 use Rattle.gateway.specs.Writing.{fieldsGiven, numberRows}
 use Rattle.gateway.proofs.SixNumbers.{too-few, flag-unfit, numbers-kept}
 use borrow.Author.Needs.{needs}

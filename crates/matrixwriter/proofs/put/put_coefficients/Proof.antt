@@ -1,11 +1,6 @@
 -- `matrixwriter::put::put_coefficients` meets its contract: of a full matrix all are sent, or have no bytes. Assumes nothing.
-use Prim.Native.Nat.{ℕ, _*_}
-use mathlib.Core.Path.{_≡_, ap, sym, _∙_}
 use native.Mathlib.Omega.{arith}
 use denote.Ref.{now}
-use lib.ListN.{length as count, take}
-use lib.Seq.{length-take-le}
-use Rattle.matrix.specs.Spelling.{spelled}
 use Rattle.matrixwriter.proofs.Putting.{full-put, full-room}
 use borrow.Author.Needs.{needs}
 use Rattle.matrixwriter.proofs.put.put_coefficients.Statement.{statement}

@@ -10,8 +10,8 @@ use Rattle.matrix.proofs.Counts.{deviations-most}
 use Rattle.matrix.proofs.Decoding.{pack-length}
 use Rattle.matrix.proofs.Keeping.{vector-most}
 use Rattle.matrix.proofs.Pairs.{pairs-most}
-use Rattle.matrixwriter.specs.Given.{meaningGiven}
-use Rattle.matrixwriter.specs.Checking.{Sendable}
+use Rattle.matrixcheck.specs.Given.{meaningGiven}
+use Rattle.matrixwriter.specs.Sending.{Sendable}
 use Rattle.matrixwriter.proofs.Parts.{vector-is, deviations-sendable, coefficients-sendable, parts-put}
 use borrow.Author.Needs.{needs}
 use Rattle.matrixwriter.proofs.put.put_given.Statement.{statement}

@@ -7,7 +7,7 @@ use denote.Ref.{now}
 use lib.ListN.{length as count}
 use Rattle.verdict.proofs.Deciding.{room-missing, room-enough}
 use Rattle.matrix.specs.Spelling.{bytesOf}
-use Rattle.matrixwriter.specs.Given.{meaningGiven}
+use Rattle.matrixcheck.specs.Given.{meaningGiven}
 use Rattle.matrixwriter.proofs.Parts.{given-length, sent-most}
 use borrow.Author.Needs.{needs}
 use Rattle.matrixwriter.proofs.put.write_given.Statement.{statement}

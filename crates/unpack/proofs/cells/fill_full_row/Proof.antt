@@ -5,7 +5,7 @@ use mathlib.Core.List.{List}
 use native.Mathlib.Nat.{zero-mul, suc-mul}
 use native.Mathlib.Omega.{arith}
 use denote.Ref.{now}
-use lib.ListN.{length as size, getD}
+use lib.ListN.{length as size}
 use Rattle.word.specs.Bytes.{wordAt}
 use Rattle.matrix.specs.declared.Fields.{Fields}
 use Rattle.matrixwalk.specs.declared.Found.{Found}

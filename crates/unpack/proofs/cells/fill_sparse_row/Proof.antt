@@ -4,7 +4,7 @@ use mathlib.Core.Path.{_≡_, refl, _∙_, ap, sym, subst}
 use mathlib.Core.List.{List}
 use native.Mathlib.Omega.{arith}
 use denote.Ref.{now}
-use lib.ListN.{length as size, take, getD, length-set}
+use lib.ListN.{length as size, take, getD}
 use Rattle.matrix.specs.declared.Fields.{Fields}
 use Rattle.matrixwalk.specs.declared.Found.{Found}
 use Rattle.matrix.specs.Meaning.{Matrix, sum, pairs, nought}

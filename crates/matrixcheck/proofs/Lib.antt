@@ -1,0 +1,5 @@
+pub mod Entries
+pub mod Given
+pub mod Fitting
+pub mod Checking
+pub mod Only

@@ -1,0 +1,54 @@
+-- `matrixcheck::check::check` meets its contract: the fields, then the lists. Assumes nothing.
+use mathlib.Core.Path.{sym, _∙_}
+use mathlib.Core.List.{_++_}
+use denote.Ref.{now}
+use lib.ListN.{take}
+use Rattle.verdict.proofs.Judging.{Kept}
+use Rattle.verdict.proofs.Deciding.{judgement-kept, judgement-blamed}
+use Rattle.matrix.specs.Meaning.{pairs, sum}
+use Rattle.matrix.specs.Table.{fieldRows}
+use Rattle.matrix.proofs.FieldRules.{fields-lawful}
+use Rattle.matrixcheck.specs.Given.{disagreeRows, valueRows}
+use Rattle.matrixcheck.proofs.Checking.{checked-on, checked-off}
+use borrow.Author.Needs.{needs}
+use Rattle.matrixcheck.proofs.check.check.Statement.{statement}
+use Rattle.matrixcheck.proofs.check.check.Tie as tie
+
+judge-fields-requires : tie.Need-judge-fields-requires
+judge-fields-requires c κs = search needs
+
+enum-told : tie.Need-enum-told
+enum-told c = search needs
+
+-- the fields keep their rules
+kept : (c : tie.After-enum-told) → Kept (fieldRows (c .before .before .before .before .before .before .args .f))
+kept c = let j = c .before .before in judgement-kept (fieldRows (j .before .before .before .before .args .f)) (sym (j .judge-fields .ensures) ∙ c .enum-told .given .1)
+
+check-lists-requires : tie.Need-check-lists-requires
+check-lists-requires c κs = fields-lawful (c .before .before .before .before .before .before .args .f) (kept c)
+
+enum-known-judged : tie.Need-enum-known-judged
+enum-known-judged c = search needs
+
+returns : tie.Need-returns
+returns c =
+    let a = c .before .before .before .before .before .before .before .args in
+    let marks = now (a .marks) in
+    c .check-lists .ensures
+    ∙ sym
+    (checked-on (fieldRows (a .f)) (disagreeRows (a .f) (now (a .deviations)) (now (a .coefficients)) marks ++ valueRows (a .f) (now (a .deviations)) (now (a .coefficients)) marks) (sum (take (pairs (a .f .n)) marks))
+    (kept (c .before)))
+
+returns-2 : tie.Need-returns-2
+returns-2 c =
+    let b = c .before in
+    let j = b .before .before in
+    let a = j .before .before .before .before .args in
+    let marks = now (a .marks) in
+    let reason = b .judged .given .0 .0 in
+    sym
+    (checked-off (fieldRows (a .f)) (disagreeRows (a .f) (now (a .deviations)) (now (a .coefficients)) marks ++ valueRows (a .f) (now (a .deviations)) (now (a .coefficients)) marks) (sum (take (pairs (a .f .n)) marks)) reason
+    (judgement-blamed (fieldRows (a .f)) reason (sym (j .judge-fields .ensures) ∙ b .judged .given .1)))
+
+pub check-spec : {M : Type 1} → statement M
+check-spec = tie.close (tie.spec judge-fields-requires enum-told check-lists-requires enum-known-judged returns returns-2)

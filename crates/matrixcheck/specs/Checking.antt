@@ -1,0 +1,28 @@
+-- What the check of what the writer of matrix packs is given answers.
+use Prim.Native.Nat.{ℕ, _≤_}
+use mathlib.Core.Bool.{cond}
+use mathlib.Core.List.{List, [], _∷_}
+use lib.ListN.{length}
+use Rattle.verdict.specs.Rows.{Row}
+use Rattle.matrix.specs.declared.Fields.{Fields}
+use Rattle.matrix.specs.Meaning.{pairs, sum}
+use Rattle.matrixcheck.specs.declared.check.Marked.{Marked}
+use Rattle.matrixcheck.specs.declared.check.Marked.the-variants.{Fit, Unfit}
+use Rattle.matrixcheck.specs.declared.check.Checked.{Checked}
+use Rattle.matrixcheck.specs.declared.check.Checked.the-variants.{Sent, Broken}
+use Rattle.matrixcheck.specs.Given.{marksFit}
+
+-- how many marks are 1, where all fit
+abbrev pub markedOf : Fields → List ℕ → Marked
+markedOf f marks = cond (marksFit f marks) (Fit (sum marks)) Unfit
+
+-- the first broken rule's reason, or so many sent
+abbrev pub checkedOf : List Row → ℕ → Checked
+checkedOf [] sent = Sent sent
+checkedOf (row ∷ rows) sent = cond (row .broken) (Broken (row .reason)) (checkedOf rows sent)
+
+-- lists with enough entries
+pub record Enough (f : Fields) (deviations coefficients marks : List ℕ) : Type 0 where
+  pub deviations-enough : f .n ≤ length deviations
+  pub coefficients-enough : pairs (f .n) ≤ length coefficients
+  pub marks-enough : pairs (f .n) ≤ length marks
