@@ -8,8 +8,8 @@ use native.Mathlib.Nat.{pow-zero, pow-suc, mod-lt, mod-eq-of-lt, div-add-mod', d
 use borrow.Author.Tests.{ltb-true, ltb-false, ne-eqb}
 use lib.Dec.{eqb, ltb}
 use lib.Pow.{pow-add, pow-lt, shl-shr}
-use lib.ListN.{length, take, drop, getD, replicate, length-append, length-take, length-drop}
-use lib.Seq.{take-suc, getD-drop, length-take-le}
+use lib.ListN.{length, take, drop, getD, replicate, length-append, length-take}
+use lib.Seq.{take-suc, length-take-le}
 use Rattle.word.specs.Digits.{digits, valueOn, valueOf}
 use Rattle.word.specs.Bytes.{wordAt}
 
@@ -111,10 +111,6 @@ value-more b ds i h = rw (take-suc ds i 0 h) (value-snoc b 0 (take i ds) (getD d
 pub value-take-below : (b n : ℕ) (ds : List ℕ) → Below b ds → valueOf b (take n ds) < b ^ n
 value-take-below b n ds f =
     lt-of-lt-of-le (value-below b (take n ds) (below-take n ds f)) (pow-le-pow-right (omega (arith, f 0)) (omega (arith, length-take n ds)))
-
--- one byte more of a word
-pub word-more : (s : List ℕ) (place i : ℕ) → i < length s - place → wordAt s place (suc i) ≡ wordAt s place i * 256 + getD s (place + i) 0
-word-more s place i h = value-more 256 (drop place s) i (rw length-drop h) ∙ rw getD-drop
 
 pub word-below : (s : List ℕ) (place n : ℕ) → Below 256 s → wordAt s place n < 256 ^ n
 word-below s place n f = value-take-below 256 n (drop place s) (below-drop place s f)
