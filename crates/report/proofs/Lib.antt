@@ -1,4 +1,3 @@
-pub mod DigitPairs
 pub mod Keeping
 pub mod Closing
 pub mod Reporting

@@ -7,12 +7,11 @@ ghost use Rattle.text.specs.Writing.{room};
 ghost use Rattle.report.specs.Line.{longestLine, lineAnswer};
 ghost use Rattle.report.specs.Report.{nextNumber};
 ghost use Rattle.report.specs.Feeding.{Piece, keptAll, heldAll, heldAnswer, Closed, Fed, FedBy, Finished};
-use crate::hex::decode;
-use crate::hex::is_hex;
 use frame::Answer;
 use frame::Kind;
 use frame::Outcome;
 use frame::examine::examine;
+use hex::decode;
 use text::write_line;
 use verdict::Reason;
 use verdict::Refusal;
@@ -63,8 +62,7 @@ fn line_answer(text: &[u8], bytes: &mut [u8]) -> Answer
     requires { ⌜ (length (now text) ≤ longestLine) × (32832 ≤ length (now bytes)) ⌝ }
     ensures { λ r. ⌜ (r ≡ lineAnswer (now (text .entry))) × (length (now (bytes .exit)) ≡ length (now (bytes .entry))) ⌝ }
 {
-    if is_hex(text) {
-        decode(text, bytes);
+    if decode(text, bytes) {
         let count = text.len() / 2;
         return examine(&bytes[..count]);
     }

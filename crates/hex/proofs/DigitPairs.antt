@@ -1,4 +1,4 @@
--- Laws of pairs of hexadecimal digits: which texts are such pairs, what a digit is worth, and the bytes spelled so far. Assumes nothing.
+-- Laws of pairs of hexadecimal digits: which texts are such pairs, what a digit is worth, the bytes spelled so far, and what `decode` answers. Assumes nothing.
 use Prim.Native.Nat.{ℕ, suc, _+_, _*_, _/_, _%_, _≤_, _<_}
 use mathlib.Core.Path.{_≡_, refl, sym, ap, ap₂, _∙_}
 use mathlib.Core.Bool.{Bool, true, false, _&&_, and-true, and-false, and-assoc, and-eq-true-iff}
@@ -9,8 +9,8 @@ use borrow.Author.Tests.{leb-true, le-leb, lt-leb}
 use lib.Dec.{leb}
 use lib.ListN.{length, take, drop, getD, set, length-set, length-append, length-drop, take-append-drop, drop-of-length-le}
 use lib.Seq.{drop-cons, take-suc-set, drop-set-lt, append-snoc, take-at}
-use Rattle.verdict.proofs.Cases.{either, or-left}
-use Rattle.report.specs.Line.{isDigit, digitOf, isHex, hexOf}
+use Rattle.verdict.proofs.Cases.{either, or-left, by-test}
+use Rattle.hex.specs.Hex.{isDigit, digitOf, isHex, hexOf, decodes, Decoded}
 
 -- whether each character is a digit
 unfoldable pub allDigits : List ℕ → Bool
@@ -52,17 +52,17 @@ digit-ranges c h f g =
 pub digit-worth : (c : ℕ) → isDigit c ≡ true → (c % 16 + 9 * (c / 64) ≡ digitOf c) × (digitOf c ≤ 15)
 digit-worth c h = digit-ranges c h (λ a b. rw (le-leb c 57 b) (omega arith)) (λ a b. rw (lt-leb c 57 (omega arith)) (omega arith))
 
-pub hex-length : (text : List ℕ) → length (hexOf text) ≡ length text / 2
+hex-length : (text : List ℕ) → length (hexOf text) ≡ length text / 2
 unfolding hexOf
 hex-length [] = refl
 hex-length (a ∷ []) = refl
 hex-length (a ∷ b ∷ text) = omega (arith, hex-length text)
 
 -- what is spelled in front of bytes, and their length
-pub hex-front : (text bytes : List ℕ) → take (length text / 2) (hexOf text ++ bytes) ≡ hexOf text
+hex-front : (text bytes : List ℕ) → take (length text / 2) (hexOf text ++ bytes) ≡ hexOf text
 hex-front text bytes = take-at (hexOf text) bytes (length text / 2) (hex-length text)
 
-pub hex-over : (text out : List ℕ) → length text / 2 ≤ length out → length (hexOf text ++ drop (length text / 2) out) ≡ length out
+hex-over : (text out : List ℕ) → length text / 2 ≤ length out → length (hexOf text ++ drop (length text / 2) out) ≡ length out
 hex-over text out h = simp (length-append, length-drop, hex-length) (omega arith)
 
 hex-none : (text : List ℕ) → length text ≤ 1 → hexOf text ≡ []
@@ -114,3 +114,27 @@ module _ (text out₀ : List ℕ) where
         let none : hexOf (drop (2 * i) text) ≡ [] = hex-none (drop (2 * i) text) (rw length-drop (omega arith)) in
         let front : hexOf text ≡ take i out = s .means ∙ rw (none, append-nil) in
         sym (take-append-drop i out) ∙ ap₂ (λ (xs ys : List ℕ). xs ++ ys) (sym front) (ap (λ (n : ℕ). drop n out) h ∙ s .behind)
+
+-- what `decode` answers: its bytes have no room, the text is no pairs of digits, or they are spelled
+module _ (text out : List ℕ) where
+  pub decoded-small : length out < length text / 2 → Decoded text out false out
+  decoded-small h = let t = lt-leb (length text / 2) (length out) h in record { said = rw t; left = rw t }
+
+  pub decoded-none : isHex text ≡ false → Decoded text out false out
+  decoded-none h = let t : decodes text out ≡ false = simp (h, and-false) in record { said = sym t; left = rw t }
+
+  module _ (room : length text / 2 ≤ length out) where
+    pub decoded-all : isHex text ≡ true → (out′ : List ℕ) → out′ ≡ hexOf text ++ drop (length text / 2) out → Decoded text out true out′
+    decoded-all h out′ e = let t : decodes text out ≡ true = rw (le-leb (length text / 2) (length out) room, h) in record { said = sym t; left = rw t e }
+
+    module _ (answer : Bool) (out′ : List ℕ) (d : Decoded text out answer out′) where
+      -- in bytes that have room, the answer tells whether the text is pairs of digits
+      pub decoded-hex : answer ≡ isHex text
+      decoded-hex = d .said ∙ rw (le-leb (length text / 2) (length out) room)
+
+      pub decoded-length : length out′ ≡ length out
+      decoded-length =
+          ap length (d .left) ∙ by-test (λ (bytes : List ℕ). length bytes ≡ length out) (decodes text out) (hexOf text ++ drop (length text / 2) out) out (λ _. hex-over text out room) (λ _. refl)
+
+      pub decoded-front : answer ≡ true → take (length text / 2) out′ ≡ hexOf text
+      decoded-front e = let t : decodes text out ≡ true = sym (d .said) ∙ e in ap (take (length text / 2)) (d .left ∙ rw t) ∙ hex-front text (drop (length text / 2) out)

@@ -1,4 +1,4 @@
--- `report::hex::is_hex` meets its contract. The loop's invariant: `good`, and each digit from here on, is each digit from the start. Assumes nothing.
+-- `hex::is_hex` meets its contract. The loop's invariant: `good`, and each digit from here on, is each digit from the start. Assumes nothing.
 use Prim.Native.Nat.{_-_, _≤_}
 use mathlib.Core.Path.{_≡_, refl, sym, _∙_}
 use mathlib.Core.Bool.{_&&_}
@@ -6,9 +6,9 @@ use native.Mathlib.Omega.{arith}
 use borrow.Author.Needs.{needs}
 use denote.Ref.{now}
 use lib.ListN.{length, drop}
-use Rattle.report.proofs.DigitPairs.{allDigits, odd-not-hex, even-hex, digits-more, digits-all}
-use Rattle.report.proofs.hex.is_hex.Statement.{statement}
-use Rattle.report.proofs.hex.is_hex.Tie as tie
+use Rattle.hex.proofs.DigitPairs.{allDigits, odd-not-hex, even-hex, digits-more, digits-all}
+use Rattle.hex.proofs.is_hex.Statement.{statement}
+use Rattle.hex.proofs.is_hex.Tie as tie
 
 abbrev Inv-loop : tie.InvT-loop
 Inv-loop text good₀ i₀ good i = (i ≤ length text) × (good && allDigits (drop i text) ≡ allDigits text)

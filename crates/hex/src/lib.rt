@@ -4,7 +4,7 @@ ghost use mathlib.Core.Bool.{true};
 ghost use mathlib.Core.List.{_++_};
 ghost use Prim.Native.Nat.{_≤_, _/_};
 ghost use lib.ListN.{length, drop};
-ghost use Rattle.report.specs.Line.{isDigit, digitOf, isHex, hexOf};
+ghost use Rattle.hex.specs.Hex.{isDigit, digitOf, isHex, hexOf, Decoded};
 
 fn is_digit(c: u8) -> bool
     ensures { λ r. ⌜ r ≡ isDigit c ⌝ }
@@ -21,7 +21,7 @@ fn digit(c: u8) -> u8
 }
 
 // Whether a text is pairs of digits; each character is looked at, so that the loop has no branch.
-pub(crate) fn is_hex(text: &[u8]) -> bool
+fn is_hex(text: &[u8]) -> bool
     ensures { λ r. ⌜ r ≡ isHex (now (text .entry)) ⌝ }
 {
     if text.len() % 2 == 1 {
@@ -37,7 +37,7 @@ pub(crate) fn is_hex(text: &[u8]) -> bool
 }
 
 // The bytes that a text spells, at the front of `out`.
-pub(crate) fn decode(text: &[u8], out: &mut [u8])
+fn spell(text: &[u8], out: &mut [u8])
     requires { ⌜ (isHex (now text) ≡ true) × (length (now text) / 2 ≤ length (now out)) ⌝ }
     ensures { λ _. ⌜ now (out .exit) ≡ hexOf (now (text .entry)) ++ drop (length (now (text .entry)) / 2) (now (out .entry)) ⌝ }
 {
@@ -49,4 +49,18 @@ pub(crate) fn decode(text: &[u8], out: &mut [u8])
         out[i] = high * 16 + low;
         i += 1;
     }
+}
+
+// The bytes that a text spells, at the front of `out`: whether it is pairs of digits and its bytes have room, without which nothing is written.
+pub fn decode(text: &[u8], out: &mut [u8]) -> bool
+    ensures { λ r. ⌜ Decoded (now (text .entry)) (now (out .entry)) r (now (out .exit)) ⌝ }
+{
+    if out.len() < text.len() / 2 {
+        return false;
+    }
+    if is_hex(text) {
+        spell(text, out);
+        return true;
+    }
+    false
 }

@@ -1,8 +1,8 @@
--- `report::hex::digit` meets its contract. Assumes nothing.
+-- `hex::digit` meets its contract. Assumes nothing.
 use borrow.Author.Needs.{needs}
-use Rattle.report.proofs.DigitPairs.{digit-worth}
-use Rattle.report.proofs.hex.digit.Statement.{statement}
-use Rattle.report.proofs.hex.digit.Tie as tie
+use Rattle.hex.proofs.DigitPairs.{digit-worth}
+use Rattle.hex.proofs.digit.Statement.{statement}
+use Rattle.hex.proofs.digit.Tie as tie
 
 mul-result : tie.Need-mul-result
 mul-result c = search needs

@@ -1,4 +1,4 @@
--- `report::hex::decode` meets its contract. The loop's invariant: the pairs before `i` are spelled in `out`. Assumes nothing.
+-- `hex::spell` meets its contract. The loop's invariant: the pairs before `i` are spelled in `out`. Assumes nothing.
 use Prim.Native.Nat.{_+_, _-_, _*_, _≤_}
 use mathlib.Core.Path.{_≡_}
 use mathlib.Core.Bool.{true}
@@ -6,10 +6,10 @@ use native.Mathlib.Omega.{arith}
 use borrow.Author.Needs.{needs}
 use denote.Ref.{now}
 use lib.ListN.{getD}
-use Rattle.report.specs.Line.{isDigit}
-use Rattle.report.proofs.DigitPairs.{digit-worth, Spelled, spelled-none, pair-digits, spelled-more, spelled-all}
-use Rattle.report.proofs.hex.decode.Statement.{statement}
-use Rattle.report.proofs.hex.decode.Tie as tie
+use Rattle.hex.specs.Hex.{isDigit}
+use Rattle.hex.proofs.DigitPairs.{digit-worth, Spelled, spelled-none, pair-digits, spelled-more, spelled-all}
+use Rattle.hex.proofs.spell.Statement.{statement}
+use Rattle.hex.proofs.spell.Tie as tie
 
 abbrev Inv-loop : tie.InvT-loop
 Inv-loop text out₀ count i₀ out i = (i ≤ count) × Spelled text out₀ i out
@@ -89,8 +89,8 @@ returns c =
     let s = c .before .before .before .before in
     spelled-all (now (s .args .text)) (now (s .args .out)) (l .i) (l .out) (l .inv .1) (omega arith)
 
-pub decode-spec : {M : Type 1} → statement M
-decode-spec =
+pub spell-spec : {M : Type 1} → statement M
+spell-spec =
     tie.close
     (tie.spec
     Inv-loop

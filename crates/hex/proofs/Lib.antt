@@ -1,0 +1,2 @@
+pub mod DigitPairs
+pub mod Only
