@@ -1,15 +1,16 @@
 -- How a chunk is fed line by line: a piece without LF, a line that closes, one that has no room. Assumes nothing.
 use Prim.Native.Nat.{ℕ, zero, suc, _+_, _-_, _≤_, _<_}
 use mathlib.Core.Path.{_≡_, refl, sym, ap, ap₂, _∙_}
-use mathlib.Core.Bool.{Bool, true, false, cond}
+use mathlib.Core.Bool.{Bool, true, false, _||_, cond, false≢true}
 use mathlib.Core.List.{List, [], _++_, append-assoc, append-nil}
 use native.Mathlib.Omega.{arith}
-use borrow.Author.Tests.{lt-ltb, le-ltb, eq-eqb}
-use lib.Dec.{eqb}
+use borrow.Author.Tests.{lt-ltb, le-ltb, eq-eqb, eqb-true, eqb-false, ltb-true, ltb-false}
+use lib.Dec.{eqb, ltb}
 use lib.ListN.{length, take, drop, getD, length-append, drop-of-length-le}
 use lib.Seq.{drop-cons}
 use Rattle.verdict.specs.declared.Reason.the-variants.{SmallBuffer}
 use Rattle.report.specs.declared.feed.State.{State}
+use Rattle.report.specs.declared.feed.Going.{Going}
 use Rattle.report.specs.declared.feed.Feeding.{Feeding}
 use Rattle.report.specs.declared.feed.Feeding.the-variants.{Fed as FedCase, Refused}
 use Rattle.report.specs.Line.{longestLine}
@@ -17,12 +18,9 @@ use Rattle.text.specs.Text.{textOf}
 use Rattle.verdict.specs.Writing.{put}
 use Rattle.text.specs.Writing.{room}
 use Rattle.report.specs.Report.{nextNumber}
-use Rattle.report.specs.Feeding.{kept, heldOn, keptAll, heldAll, heldAnswer, Piece, Came, behind, cameOf, answerFor, Closed, Fed, Kept, tooSmall, FedBy}
-use Rattle.verdict.proofs.Putting.{put-none, put-put}
-
--- what came, behind so many characters and this text
-abbrev pub further : ℕ → List ℕ → Came → Came
-further taken text came = record { number = came .number; held = came .held; buffer = came .buffer; text = text ++ came .text; taken = taken + came .taken }
+use Rattle.report.specs.Feeding.{kept, heldOn, keptAll, heldAll, heldAnswer, Piece, Came, behind, nothing, further, cameOf, Sofar, answerFor, Closed, Fed, Kept, tooSmall, FedBy}
+use Rattle.verdict.proofs.Putting.{put-none, put-put, length-put}
+use Rattle.verdict.proofs.Cases.{either, by-test}
 
 further-none : (came : Came) → came ≡ further 0 [] came
 further-none came = ap (λ (k : ℕ). record { number = came .number; held = came .held; buffer = came .buffer; text = came .text; taken = k }) (omega arith)
@@ -33,10 +31,6 @@ further-further j k p q came =
 
 behind-further : (text : List ℕ) (came : Came) → behind text came ≡ further 1 text came
 behind-further text came = ap (λ (k : ℕ). record { number = came .number; held = came .held; buffer = came .buffer; text = text ++ came .text; taken = k }) (omega arith)
-
--- nothing more came
-abbrev nothing : ℕ → ℕ → List ℕ → Came
-nothing number held buffer = record { number = number; held = held; buffer = buffer; text = []; taken = 0 }
 
 module _ (chunk : List ℕ) where
   -- a piece without LF is kept
@@ -69,17 +63,8 @@ module _ (chunk : List ℕ) where
     unfolding cameOf
     came-close h e r = let n : to + 1 ≡ suc to = omega arith in rw (drop-cons chunk to 0 h, eq-eqb (getD chunk to 0) 10 e, le-ltb left room r, n) (behind-further (textOf number (heldAnswer buffer held)) _)
 
--- how far a chunk was fed: what came so far, and what is still to come
-pub record Sofar (state : State) (chunk buffer₀ out₀ : List ℕ) (number held taken written : ℕ) (buffer out : List ℕ) : Type 0 where
-  pub text : List ℕ
-  pub counted : length text ≡ written
-  pub room-left : written ≤ length out₀
-  pub far : taken ≤ length chunk
-  pub wrote : out ≡ put out₀ 0 text
-  pub came : cameOf (state .number) (state .held) buffer₀ (length out₀) chunk ≡ further taken text (cameOf number held buffer (length out₀ - written) (drop taken chunk))
-
 module _ (state : State) (chunk buffer₀ out₀ : List ℕ) where
-  pub sofar-none : Sofar state chunk buffer₀ out₀ (state .number) (state .held) 0 0 buffer₀ out₀
+  pub sofar-none : Sofar state chunk buffer₀ out₀ (record { number = state .number; held = state .held; taken = 0; written = 0; more = true }) buffer₀ out₀
   sofar-none =
       let e : length out₀ - 0 ≡ length out₀ = omega arith in
       record {
@@ -91,48 +76,83 @@ module _ (state : State) (chunk buffer₀ out₀ : List ℕ) where
         came = rw e (further-none (cameOf (state .number) (state .held) buffer₀ (length out₀) chunk));
       }
 
-  module _ (number held taken written : ℕ) (buffer out : List ℕ) (z : Sofar state chunk buffer₀ out₀ number held taken written buffer out) (to : ℕ) (p : Piece chunk taken to)
-      (held′ : ℕ) (h : held′ ≡ heldAll held (to - taken)) (buffer′ : List ℕ) (b : buffer′ ≡ keptAll buffer held (take (to - taken) (drop taken chunk))) where
-    -- up to the end of a piece
-    sofar-piece : cameOf (state .number) (state .held) buffer₀ (length out₀) chunk ≡ further to (z .text) (cameOf number held′ buffer′ (length out₀ - written) (drop to chunk))
-    sofar-piece =
-        let e : taken + (to - taken) ≡ to = omega (arith, p .forward) in
-        z .came
-        ∙ ap (further taken (z .text)) (came-piece chunk (to - taken) taken number held (length out₀ - written) buffer (omega (arith, p .forward, p .within)) (λ i l m. p .none i l (omega (arith, p .forward))))
-        ∙ further-further taken (to - taken) (z .text) [] _
-        ∙ rw (e, append-nil, ← h, ← b)
+  module _ (at : Going) (buffer out : List ℕ) (z : Sofar state chunk buffer₀ out₀ at buffer out) where
+    pub sofar-length : length out ≡ length out₀
+    sofar-length = ap length (z .wrote) ∙ length-put out₀ 0 (z .text) (omega (arith, z .counted, z .room-left))
 
-    stays : cameOf number held′ buffer′ (length out₀ - written) (drop to chunk) ≡ nothing number held′ buffer′ → Fed state chunk buffer₀ out₀ (FedCase (record { number = number; held = held′ }) to written) buffer′ out
-    stays e =
-        let c = sofar-piece ∙ ap (further to (z .text)) e in
+    -- where it goes no further the chunk is fed
+    pub sofar-all : at .more ≡ false → Fed state chunk buffer₀ out₀ (FedCase (record { number = at .number; held = at .held }) (at .taken) (at .written)) buffer out
+    sofar-all e =
+        let c : cameOf (state .number) (state .held) buffer₀ (length out₀) chunk ≡ further (at .taken) (z .text) (nothing (at .number) (at .held) buffer) = z .came ∙ rw e in
         let t : z .text ++ [] ≡ z .text = append-nil (z .text) in
         record {
-          said = sym (ap answerFor c ∙ ap₂ (FedCase (record { number = number; held = held′ })) (omega arith) (ap length t ∙ z .counted));
+          said = sym (ap answerFor c ∙ ap₂ (FedCase (record { number = at .number; held = at .held })) (omega arith) (ap length t ∙ z .counted));
           keeps = sym (ap (λ (x : Came). x .buffer) c);
           wrote = z .wrote ∙ ap (put out₀ 0) (sym (ap (λ (x : Came). x .text) c ∙ t));
         }
 
-    pub sofar-ended : length chunk ≤ to → Fed state chunk buffer₀ out₀ (FedCase (record { number = number; held = held′ }) to written) buffer′ out
-    sofar-ended l = stays (came-end chunk number held′ (length out₀ - written) buffer′ to l)
+    module _ (m : at .more ≡ true) (to : ℕ) (p : Piece chunk (at .taken) to)
+        (held′ : ℕ) (h : held′ ≡ heldAll (at .held) (to - at .taken)) (buffer′ : List ℕ) (b : buffer′ ≡ keptAll buffer (at .held) (take (to - at .taken) (drop (at .taken) chunk))) where
+      -- up to the end of a piece
+      sofar-piece : cameOf (state .number) (state .held) buffer₀ (length out₀) chunk ≡ further to (z .text) (cameOf (at .number) held′ buffer′ (length out₀ - at .written) (drop to chunk))
+      sofar-piece =
+          let e : at .taken + (to - at .taken) ≡ to = omega (arith, p .forward) in
+          let c : cameOf (state .number) (state .held) buffer₀ (length out₀) chunk ≡ further (at .taken) (z .text) (cameOf (at .number) (at .held) buffer (length out₀ - at .written) (drop (at .taken) chunk)) = z .came ∙ rw m in
+          c
+          ∙ ap (further (at .taken) (z .text)) (came-piece chunk (to - at .taken) (at .taken) (at .number) (at .held) (length out₀ - at .written) buffer (omega (arith, p .forward, p .within)) (λ i l m. p .none i l (omega (arith, p .forward))))
+          ∙ further-further (at .taken) (to - at .taken) (z .text) [] _
+          ∙ rw (e, append-nil, ← h, ← b)
 
-    pub sofar-stopped : to < length chunk → length out₀ - written < room → Fed state chunk buffer₀ out₀ (FedCase (record { number = number; held = held′ }) to written) buffer′ out
-    sofar-stopped l r = stays (came-stop chunk number held′ (length out₀ - written) buffer′ to l (p .stops l) r)
+      -- where the chunk ends, or there is no room for a line
+      pub sofar-stopped : eqb to (length chunk) || ltb (length out - at .written) room ≡ true
+          → Sofar state chunk buffer₀ out₀ (record { number = at .number; held = held′; taken = to; written = at .written; more = false }) buffer′ out
+      sofar-stopped t =
+          record {
+            text = z .text;
+            counted = z .counted;
+            room-left = z .room-left;
+            far = p .within;
+            wrote = z .wrote;
+            came =
+                sofar-piece ∙ ap (further to (z .text))
+                (either (eqb to (length chunk))
+                (λ e. came-end chunk (at .number) held′ (length out₀ - at .written) buffer′ to (omega (arith, eqb-true to (length chunk) e)))
+                (λ e.
+                let l : to < length chunk = omega (arith, eqb-false to (length chunk) e, p .within) in
+                let r : length out - at .written < room = ltb-true (length out - at .written) room (sym (rw e) ∙ t) in
+                came-stop chunk (at .number) held′ (length out₀ - at .written) buffer′ to l (p .stops l) (omega (arith, sofar-length, r))));
+          }
 
-    pub sofar-closed : to < length chunk → room ≤ length out₀ - written → (next : ℕ) (out′ : List ℕ) → Closed number buffer′ held′ out written next out′
-        → Sofar state chunk buffer₀ out₀ (nextNumber number) 0 (to + 1) next buffer′ out′
-    sofar-closed l r next out′ d =
-        let line = textOf number (heldAnswer buffer′ held′) in
-        let left : length out₀ - written - length line ≡ length out₀ - next = omega (arith, d .behind) in
-        record {
-          text = z .text ++ line;
-          counted = length-append (z .text) line ∙ omega (arith, z .counted, d .behind);
-          room-left = omega (arith, d .behind, d .short);
-          far = omega arith;
-          wrote = d .wrote ∙ ap₂ (λ (o : List ℕ) (n : ℕ). put o n line) (z .wrote) (omega (arith, z .counted)) ∙ put-put out₀ 0 (z .text) line (omega (arith, z .counted, z .room-left));
-          came =
-              sofar-piece ∙ ap (further to (z .text)) (came-close chunk number held′ (length out₀ - written) buffer′ to l (p .stops l) r)
-              ∙ further-further to 1 (z .text) line _ ∙ rw left;
-        }
+      pub sofar-closed : to < length chunk → room ≤ length out - at .written → (next : ℕ) (out′ : List ℕ) → Closed (at .number) buffer′ held′ out (at .written) next out′
+          → Sofar state chunk buffer₀ out₀ (record { number = nextNumber (at .number); held = 0; taken = to + 1; written = next; more = true }) buffer′ out′
+      sofar-closed l r next out′ d =
+          let line = textOf (at .number) (heldAnswer buffer′ held′) in
+          let left : length out₀ - at .written - length line ≡ length out₀ - next = omega (arith, d .behind) in
+          record {
+            text = z .text ++ line;
+            counted = length-append (z .text) line ∙ omega (arith, z .counted, d .behind);
+            room-left = omega (arith, sofar-length, d .behind, d .short);
+            far = omega arith;
+            wrote = d .wrote ∙ ap₂ (λ (o : List ℕ) (n : ℕ). put o n line) (z .wrote) (omega (arith, z .counted)) ∙ put-put out₀ 0 (z .text) line (omega (arith, z .counted, z .room-left));
+            came =
+                sofar-piece ∙ ap (further to (z .text)) (came-close chunk (at .number) held′ (length out₀ - at .written) buffer′ to l (p .stops l) (omega (arith, sofar-length, r)))
+                ∙ further-further to 1 (z .text) line _ ∙ rw left;
+          }
+
+-- otherwise LF stands there, and there is room
+pub goes-on : (to end left : ℕ) → to ≤ end → eqb to end || ltb left room ≡ false → (to < end) × (room ≤ left)
+goes-on to end left h t = let both = or-none (eqb to end) (ltb left room) t in (omega (arith, eqb-false to end (both .0)), ltb-false left room (both .1))
+  where
+    or-none : (a b : Bool) → a || b ≡ false → (a ≡ false) × (b ≡ false)
+    or-none false b e = (refl, e)
+    or-none true b e = absurd (false≢true (sym e))
+
+-- at least so many passes are left
+abbrev pub left : List ℕ → Going → ℕ
+left chunk at = cond (at .more) (suc (length chunk - at .taken)) 0
+
+pub left-less : (chunk : List ℕ) (at next : Going) → at .more ≡ true → (next .more ≡ true → at .taken < next .taken) → next .taken ≤ length chunk → left chunk next < left chunk at
+left-less chunk at next m n h = rw m (by-test (λ (k : ℕ). k < suc (length chunk - at .taken)) (next .more) _ _ (λ e. omega (arith, n e)) (λ _. omega arith))
 
 -- refused 13, or fed
 module _ (state : State) (chunk buffer out : List ℕ) where

@@ -1,9 +1,9 @@
 -- What feeding a chunk of the input does: the open line is held in a line buffer, and each closed line's text is written.
 use Prim.Native.Nat.{ℕ, zero, suc, _+_, _-_, _≤_, _<_, min}
 use mathlib.Core.Path.{_≡_}
-use mathlib.Core.Bool.{Bool, false, _||_, cond}
+use mathlib.Core.Bool.{Bool, true, false, _||_, cond}
 use mathlib.Core.List.{List, [], _∷_, _++_}
-use lib.ListN.{length, take, getD, set}
+use lib.ListN.{length, take, drop, getD, set}
 use lib.Dec.{eqb, ltb}
 use Rattle.verdict.specs.declared.Reason.the-variants.{FrameLong, SmallBuffer}
 use Rattle.verdict.specs.declared.Verdict.{Verdict}
@@ -11,6 +11,7 @@ use Rattle.frame.specs.declared.Kind.the-variants.{Unknown}
 use Rattle.frame.specs.declared.Outcome.the-variants.{Open}
 use Rattle.frame.specs.declared.Answer.{Answer}
 use Rattle.report.specs.declared.feed.State.{State}
+use Rattle.report.specs.declared.feed.Going.{Going}
 use Rattle.report.specs.declared.feed.Feeding.{Feeding}
 use Rattle.report.specs.declared.feed.Feeding.the-variants.{Fed as FedCase, Refused}
 use Rattle.frame.specs.Frame.{refusing}
@@ -55,17 +56,50 @@ pub record Came : Type 0 where
   pub text : List ℕ
   pub taken : ℕ
 
+-- nothing came
+abbrev pub nothing : ℕ → ℕ → List ℕ → Came
+nothing number held buffer = record { number = number; held = held; buffer = buffer; text = []; taken = 0 }
+
 abbrev pub behind : List ℕ → Came → Came
 behind text came = record { number = came .number; held = came .held; buffer = came .buffer; text = text ++ came .text; taken = suc (came .taken) }
 
 -- a chunk, with so much room for text: a line is closed only where any report line has room
 unfoldable pub cameOf : ℕ → ℕ → List ℕ → ℕ → List ℕ → Came
-cameOf number held buffer left [] = record { number = number; held = held; buffer = buffer; text = []; taken = 0 }
+cameOf number held buffer left [] = nothing number held buffer
 cameOf number held buffer left (c ∷ chunk) =
     let text = textOf number (heldAnswer buffer held) in
     cond (eqb c 10)
-    (cond (ltb left room) (record { number = number; held = held; buffer = buffer; text = []; taken = 0 }) (behind text (cameOf (nextNumber number) 0 buffer (left - length text) chunk)))
+    (cond (ltb left room) (nothing number held buffer) (behind text (cameOf (nextNumber number) 0 buffer (left - length text) chunk)))
     (behind [] (cameOf number (heldOn held) (kept buffer held c) left chunk))
+
+-- what came, behind so many characters and this text
+abbrev pub further : ℕ → List ℕ → Came → Came
+further taken text came = record { number = came .number; held = came .held; buffer = came .buffer; text = text ++ came .text; taken = taken + came .taken }
+
+-- how far a chunk was fed: what came so far, and what is still to come, which is nothing where it goes no further
+abbrev pub rest : Going → List ℕ → ℕ → List ℕ → Came
+rest at buffer left chunk = cond (at .more) (cameOf (at .number) (at .held) buffer left chunk) (nothing (at .number) (at .held) buffer)
+
+pub record Sofar (state : State) (chunk buffer₀ out₀ : List ℕ) (at : Going) (buffer out : List ℕ) : Type 0 where
+  pub text : List ℕ
+  pub counted : length text ≡ at .written
+  pub room-left : at .written ≤ length out₀
+  pub far : at .taken ≤ length chunk
+  pub wrote : out ≡ put out₀ 0 text
+  pub came : cameOf (state .number) (state .held) buffer₀ (length out₀) chunk ≡ further (at .taken) text (rest at buffer (length out₀ - at .written) (drop (at .taken) chunk))
+
+-- it goes further, in memory that is long enough
+pub record Goes (at : Going) (chunk buffer bytes out : List ℕ) : Type 0 where
+  pub goes : at .more ≡ true
+  pub far : at .taken ≤ length chunk
+  pub holds : longestLine ≤ length buffer
+  pub spells : 32832 ≤ length bytes
+  pub room-left : at .written ≤ length out
+
+-- from wherever it began, it came so far, and nearer to the chunk's end where it goes further
+pub record Onward (at : Going) (chunk buffer out : List ℕ) (next : Going) (buffer′ out′ : List ℕ) : Type 0 where
+  pub nearer : next .more ≡ true → at .taken < next .taken
+  pub sofar : (state : State) (buffer₀ out₀ : List ℕ) → Sofar state chunk buffer₀ out₀ at buffer out → Sofar state chunk buffer₀ out₀ next buffer′ out′
 
 -- a line was closed: its text stands at a place of the output, and behind it the next has its place
 pub record Closed (number : ℕ) (buffer : List ℕ) (held : ℕ) (out : List ℕ) (place next : ℕ) (out′ : List ℕ) : Type 0 where

@@ -6,7 +6,7 @@ ghost use Rattle.frame.specs.Frame.{refusing};
 ghost use Rattle.text.specs.Writing.{room};
 ghost use Rattle.report.specs.Line.{longestLine, lineAnswer};
 ghost use Rattle.report.specs.Report.{nextNumber};
-ghost use Rattle.report.specs.Feeding.{Piece, keptAll, heldAll, heldAnswer, Closed, Fed, FedBy, Finished};
+ghost use Rattle.report.specs.Feeding.{Piece, keptAll, heldAll, heldAnswer, Closed, Goes, Onward, Fed, FedBy, Finished};
 use frame::Answer;
 use frame::Kind;
 use frame::Outcome;
@@ -168,39 +168,68 @@ fn close(
     }
 }
 
+// How far a chunk was fed: the state, what was taken and written, and whether it goes further.
+struct Going {
+    number: u64,
+    held: usize,
+    taken: usize,
+    written: usize,
+    more: bool,
+}
+
+// The next piece of the chunk is kept, and its line closed, where it ends in LF and there is room for any report line.
+fn pass(at: Going, chunk: &[u8], line: &mut [u8], bytes: &mut [u8], out: &mut [u8]) -> Going
+    requires { ⌜ Goes at (now chunk) (now line) (now bytes) (now out) ⌝ }
+    ensures { λ r. ⌜ Onward at (now (chunk .entry)) (now (line .entry)) (now (out .entry)) r (now (line .exit)) (now (out .exit)) × (length (now (bytes .exit)) ≡ length (now (bytes .entry))) ⌝ }
+{
+    let number = at.number;
+    let taken = at.taken;
+    let written = at.written;
+    let to = piece_end(chunk, taken);
+    keep(line, at.held, &chunk[taken..to]);
+    let held = held_with(at.held, to - taken);
+    if (to == chunk.len()) | (out.len() - written < ROOM) {
+        return Going {
+            number,
+            held,
+            taken: to,
+            written,
+            more: false,
+        };
+    }
+    let behind = close(number, line, held, bytes, out, written);
+    Going {
+        number: next_number(number),
+        held: 0,
+        taken: to + 1,
+        written: behind,
+        more: true,
+    }
+}
+
 // A chunk, where the buffers are long enough.
 fn feed_all(state: State, chunk: &[u8], line: &mut [u8], out: &mut [u8]) -> Feeding
     requires { ⌜ (longestLine ≤ length (now line)) × (room ≤ length (now out)) ⌝ }
     ensures { λ r. ⌜ Fed state (now (chunk .entry)) (now (line .entry)) (now (out .entry)) r (now (line .exit)) (now (out .exit)) ⌝ }
 {
     let mut bytes = [0u8; 32832];
-    let mut number = state.number;
-    let mut held = state.held;
-    let mut taken = 0;
-    let mut written = 0;
-    let mut to = piece_end(chunk, 0);
-    while to < chunk.len() {
-        keep(line, held, &chunk[taken..to]);
-        held = held_with(held, to - taken);
-        if out.len() - written < ROOM {
-            return Feeding::Fed {
-                state: State { number, held },
-                taken: to,
-                written,
-            };
-        }
-        written = close(number, line, held, &mut bytes, out, written);
-        number = next_number(number);
-        held = 0;
-        taken = to + 1;
-        to = piece_end(chunk, taken);
+    let mut at = Going {
+        number: state.number,
+        held: state.held,
+        taken: 0,
+        written: 0,
+        more: true,
+    };
+    while at.more {
+        at = pass(at, chunk, line, &mut bytes, out);
     }
-    keep(line, held, &chunk[taken..]);
-    held = held_with(held, chunk.len() - taken);
     Feeding::Fed {
-        state: State { number, held },
-        taken: chunk.len(),
-        written,
+        state: State {
+            number: at.number,
+            held: at.held,
+        },
+        taken: at.taken,
+        written: at.written,
     }
 }
 
