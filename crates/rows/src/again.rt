@@ -1,7 +1,6 @@
 // Rows of a pack that is read, unpacked and written again: into room that is exact, one byte short and longer.
 ghost use Prim.Native.Nat.{_≤_};
 ghost use lib.ListN.{length};
-use crate::decode;
 use crate::say_number;
 use crate::values::fill_marks;
 use crate::values::kept_marks;
@@ -172,14 +171,10 @@ fn say_again(letter: &[u8], count: usize, same: bool) {
     io::write_all(STDOUT_FILENO, b"differs\n");
 }
 
-// A row of a matrix pack, "R", or of an array pack.
-pub(crate) fn again_row(text: &[u8], out: &mut [u8])
-    requires { ⌜ 2 ≤ length (now text) ⌝ }
-{
-    let n = decode(text, 2, out);
-    if text[0] == 82 {
-        say_again(b"R ", n, matrix_same(&out[..n]));
-        return;
-    }
-    say_again(b"Q ", n, array_same(&out[..n]));
+pub(crate) fn matrix_row(value: &[u8]) {
+    say_again(b"R ", value.len(), matrix_same(value));
+}
+
+pub(crate) fn array_row(value: &[u8]) {
+    say_again(b"Q ", value.len(), array_same(value));
 }

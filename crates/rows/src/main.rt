@@ -33,23 +33,31 @@ fn pairs(text: &[u8], from: usize, out: &[u8]) -> usize
     if most < out.len() { most } else { out.len() }
 }
 
+// The byte that the pair of digits at a place spells, 256 where it is none.
+fn byte_at(text: &[u8], place: usize) -> usize
+    requires { ⌜ place + 1 < length (now text) ⌝ }
+{
+    let high = digit(text[place]);
+    let low = digit(text[place + 1]);
+    if (high > 15) | (low > 15) {
+        return 256;
+    }
+    (high as usize) * 16 + low as usize
+}
+
 // The bytes that a text spells from a place on, up to what is no pair of digits: how many.
-pub(crate) fn decode(text: &[u8], from: usize, out: &mut [u8]) -> usize
+fn decode(text: &[u8], from: usize, out: &mut [u8]) -> usize
     requires { ⌜ from ≤ length (now text) ⌝ }
     ensures { λ r. ⌜ (from + 2 * r ≤ length (now (text .entry))) × (r ≤ length (now (out .exit))) ⌝ }
 {
     let most = pairs(text, from, out);
     let mut n = 0;
     while n < most {
-        let high = digit(text[from + 2 * n]);
-        let low = digit(text[from + 2 * n + 1]);
-        if high > 15 {
+        let byte = byte_at(text, from + 2 * n);
+        if byte > 255 {
             return n;
         }
-        if low > 15 {
-            return n;
-        }
-        out[n] = high * 16 + low;
+        out[n] = byte as u8;
         n += 1;
     }
     n
@@ -99,20 +107,6 @@ fn beginnings(kind: u8, bytes: &[u8]) {
         say(verdict_on(kind, &bytes[..k]));
         k += 1;
     }
-}
-
-// A row of a pack: its kind, a space, its bytes.
-fn pack_row(text: &[u8], out: &mut [u8])
-    requires { ⌜ 2 ≤ length (now text) ⌝ }
-{
-    let kind = text[0];
-    let n = decode(text, 2, out);
-    if kind > 90 {
-        beginnings(kind, &out[..n]);
-    }
-    io::write_all(STDOUT_FILENO, text);
-    io::write_all(STDOUT_FILENO, b" ");
-    say(verdict_on(kind, &out[..n]));
 }
 
 // A decimal number in a text, and the place behind it.
@@ -227,37 +221,79 @@ fn say_address(bytes: &[u8], indices: &[usize]) {
     }
 }
 
-// A row of addressing: the bytes, how many of 0 behind them, the indices.
-fn address_row(text: &[u8], out: &mut [u8])
-    requires { ⌜ 2 ≤ length (now text) ⌝ }
+// The numbers of a pack, and the offset that the indices behind the first number give.
+fn say_addressed(bytes: &[u8], numbers: &[usize], count: usize)
+    requires { ⌜ count ≤ length (now numbers) ⌝ }
 {
-    let mut numbers = [0usize; 16];
-    let n = decode(text, 2, out);
-    let count = decimals(text, 2 + 2 * n, &mut numbers);
-    let end = zeros(out, n, numbers[0]);
-    io::write_all(STDOUT_FILENO, text);
-    io::write_all(STDOUT_FILENO, b" ");
-    say_read(&out[..end]);
+    say_read(bytes);
     if count > 0 {
-        say_address(&out[..end], &numbers[1..count]);
+        say_address(bytes, &numbers[1..count]);
     }
 }
 
+// A row of addressing: so many bytes that are decoded, how many of 0 behind them, the indices.
+fn address_row(text: &[u8], from: usize, out: &mut [u8], n: usize)
+    requires { ⌜ (from ≤ length (now text)) × (n ≤ length (now out)) ⌝ }
+{
+    let mut numbers = [0usize; 16];
+    let count = decimals(text, from, &mut numbers);
+    let end = zeros(out, n, numbers[0]);
+    say_text(text);
+    say_addressed(&out[..end], &numbers, count);
+}
+
+// The row's text, before what is said of it.
+fn say_text(text: &[u8]) {
+    io::write_all(STDOUT_FILENO, text);
+    io::write_all(STDOUT_FILENO, b" ");
+}
+
+// What a row of this kind and these bytes gives; its numbers stand in the text from a place on.
+fn say_row(kind: u8, bytes: &[u8], text: &[u8], from: usize)
+    requires { ⌜ from ≤ length (now text) ⌝ }
+{
+    match kind {
+        67 => values::scaled(bytes),
+        69 => values::lists_row(kind, bytes, text, from),
+        85 => values::lists_row(kind, bytes, text, from),
+        87 => writes::matrix_written(bytes),
+        88 => writes::array_written(bytes),
+        _ => say(verdict_on(kind, bytes)),
+    }
+}
+
+// The text of a row is said too, but not of what is written again.
+fn bytes_row(kind: u8, bytes: &[u8], text: &[u8], from: usize)
+    requires { ⌜ from ≤ length (now text) ⌝ }
+{
+    if kind == 81 {
+        again::array_row(bytes);
+        return;
+    }
+    if kind == 82 {
+        again::matrix_row(bytes);
+        return;
+    }
+    if kind > 90 {
+        beginnings(kind, bytes);
+    }
+    say_text(text);
+    say_row(kind, bytes, text, from);
+}
+
+// A row: its kind, a space, its bytes, its numbers.
 fn row(text: &[u8], out: &mut [u8]) {
     if text.len() < 2 {
         return;
     }
-    match text[0] {
-        65 => address_row(text, out),
-        67 => values::scaled_row(text, out),
-        69 => values::expand_row(text, out),
-        81 => again::again_row(text, out),
-        82 => again::again_row(text, out),
-        85 => values::unpack_row(text, out),
-        87 => writes::write_row(text, out),
-        88 => writes::write_row(text, out),
-        _ => pack_row(text, out),
+    let kind = text[0];
+    let n = decode(text, 2, out);
+    let from = 2 + 2 * n;
+    if kind == 65 {
+        address_row(text, from, out, n);
+        return;
     }
+    bytes_row(kind, &out[..n], text, from);
 }
 
 // The end of the line that begins at a place.

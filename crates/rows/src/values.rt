@@ -2,7 +2,6 @@
 ghost use Prim.Native.Nat.{_≤_};
 ghost use lib.ListN.{length};
 use crate::decimals;
-use crate::decode;
 use crate::say_verdict;
 use libc::STDOUT_FILENO;
 use rule::scaled::Scaled;
@@ -111,29 +110,22 @@ fn pairs_of(n: usize) -> usize
 }
 
 // The lists of an unpacked matrix, with an entry before each and some behind it.
-fn unpacked(bytes: &[u8], for_deviations: usize, for_coefficients: usize, for_marks: usize) {
+fn unpacked(bytes: &[u8], d: usize, c: usize, m: usize)
+    requires { ⌜ (d ≤ 70) × ((c ≤ 2030) × (m ≤ 2030)) ⌝ }
+{
     let mut deviations = [0u64; 72];
     let mut coefficients = [0u64; 2032];
     let mut marks = [0u8; 2032];
     fill_words(&mut deviations);
     fill_words(&mut coefficients);
     fill_marks(&mut marks);
-    let d = least(for_deviations, 70);
-    let c = least(for_coefficients, 2030);
-    let m = least(for_marks, 2030);
     let said = unpack::unpack(
         bytes,
         &mut deviations[1..1 + d],
         &mut coefficients[1..1 + c],
         &mut marks[1..1 + m],
     );
-    say_verdict(said);
-    say_unpacked(
-        filled(said, size_in(bytes)),
-        &deviations,
-        &coefficients,
-        &marks,
-    );
+    say_unpacked(said_size(said, bytes), &deviations, &coefficients, &marks);
 }
 
 // How many variables were filled: none unless the answer is complete.
@@ -146,6 +138,14 @@ fn filled(said: Verdict, n: usize) -> usize
         Verdict::Unfinished(_) => 0,
         Verdict::Refused(_) => 0,
     }
+}
+
+// The answer is said: how many variables were filled.
+fn said_size(said: Verdict, bytes: &[u8]) -> usize
+    ensures { λ r. ⌜ r ≤ 64 ⌝ }
+{
+    say_verdict(said);
+    filled(said, size_in(bytes))
 }
 
 fn say_unpacked(n: usize, deviations: &[u64], coefficients: &[u64], marks: &[u8])
@@ -167,16 +167,15 @@ fn say_unpacked(n: usize, deviations: &[u64], coefficients: &[u64], marks: &[u8]
 }
 
 // The lists of an expanded matrix, likewise.
-fn expanded(bytes: &[u8], for_words: usize, for_marks: usize) {
+fn expanded(bytes: &[u8], w: usize, m: usize)
+    requires { ⌜ (w ≤ 4110) × (m ≤ 4110) ⌝ }
+{
     let mut words = [0u64; 4112];
     let mut marks = [0u8; 4112];
     fill_words(&mut words);
     fill_marks(&mut marks);
-    let w = least(for_words, 4110);
-    let m = least(for_marks, 4110);
     let said = unpack::expand(bytes, &mut words[1..1 + w], &mut marks[1..1 + m]);
-    say_verdict(said);
-    say_expanded(filled(said, size_in(bytes)), &words, &marks);
+    say_expanded(said_size(said, bytes), &words, &marks);
 }
 
 fn say_expanded(n: usize, words: &[u64], marks: &[u8])
@@ -241,13 +240,12 @@ fn say_unit(length: usize) {
     }
 }
 
-fn scaled(bytes: &[u8]) {
+pub(crate) fn scaled(bytes: &[u8]) {
     let mut deviations = [0u64; 64];
     let mut coefficients = [0u64; 2016];
     let mut marks = [0u8; 2016];
     let said = unpack::unpack(bytes, &mut deviations, &mut coefficients, &mut marks);
-    let n = filled(said, size_in(bytes));
-    say_verdict(said);
+    let n = said_size(said, bytes);
     if bytes.len() > 1 {
         let length = (bytes[1] % 16) as usize;
         io::write_all(STDOUT_FILENO, b" scaled");
@@ -257,33 +255,20 @@ fn scaled(bytes: &[u8]) {
     io::write_all(STDOUT_FILENO, b"\n");
 }
 
-pub(crate) fn unpack_row(text: &[u8], out: &mut [u8])
-    requires { ⌜ 2 ≤ length (now text) ⌝ }
+// A row of a matrix pack that is unpacked, "U", or expanded: the lengths of its lists stand in the text from a place on.
+pub(crate) fn lists_row(kind: u8, bytes: &[u8], text: &[u8], from: usize)
+    requires { ⌜ from ≤ length (now text) ⌝ }
 {
     let mut numbers = [0usize; 16];
-    let n = decode(text, 2, out);
-    decimals(text, 2 + 2 * n, &mut numbers);
-    io::write_all(STDOUT_FILENO, text);
-    io::write_all(STDOUT_FILENO, b" ");
-    unpacked(&out[..n], numbers[0], numbers[1], numbers[2]);
-}
-
-pub(crate) fn expand_row(text: &[u8], out: &mut [u8])
-    requires { ⌜ 2 ≤ length (now text) ⌝ }
-{
-    let mut numbers = [0usize; 16];
-    let n = decode(text, 2, out);
-    decimals(text, 2 + 2 * n, &mut numbers);
-    io::write_all(STDOUT_FILENO, text);
-    io::write_all(STDOUT_FILENO, b" ");
-    expanded(&out[..n], numbers[0], numbers[1]);
-}
-
-pub(crate) fn scaled_row(text: &[u8], out: &mut [u8])
-    requires { ⌜ 2 ≤ length (now text) ⌝ }
-{
-    let n = decode(text, 2, out);
-    io::write_all(STDOUT_FILENO, text);
-    io::write_all(STDOUT_FILENO, b" ");
-    scaled(&out[..n]);
+    decimals(text, from, &mut numbers);
+    if kind == 85 {
+        unpacked(
+            bytes,
+            least(numbers[0], 70),
+            least(numbers[1], 2030),
+            least(numbers[2], 2030),
+        );
+        return;
+    }
+    expanded(bytes, least(numbers[0], 4110), least(numbers[1], 4110));
 }

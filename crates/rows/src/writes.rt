@@ -1,7 +1,6 @@
 // Rows of writing: what a writer is given stands in the row's bytes, and its buffer is lent from the middle of a longer one.
 ghost use Prim.Native.Nat.{_+_, _*_, _≤_};
 ghost use lib.ListN.{length};
-use crate::decode;
 use crate::say_verdict;
 use crate::values::fill_marks;
 use crate::values::kept_marks;
@@ -89,66 +88,60 @@ fn fields_of(bytes: &[u8]) -> Fields {
     }
 }
 
-// A byte each: N, Cs, Cf, Clen, Sf, Slen, the room, how many deviations, coefficients and marks; then these, a mark being a byte.
-fn matrix_written(bytes: &[u8]) {
-    let mut deviations = [0u64; 64];
-    let mut coefficients = [0u64; 64];
+fn matrix_out(bytes: &[u8], deviations: &[u64], coefficients: &[u64], marks: &[u8]) {
     let mut out = [0u8; 512];
     let room = least(small_at(bytes, 6), 500);
-    let d = least(small_at(bytes, 7), 64);
-    let c = least(small_at(bytes, 8), 64);
-    let m = small_at(bytes, 9);
-    let behind = 10 + 8 * d + 8 * c;
+    fill_marks(&mut out);
+    let said = matrixwriter::write(
+        fields_of(bytes),
+        deviations,
+        coefficients,
+        marks,
+        &mut out[1..1 + room],
+    );
+    say_written(said, &out);
+}
+
+// So many deviations and coefficients stand in the bytes, before the marks.
+fn matrix_of(bytes: &[u8], d: usize, c: usize, marks: &[u8])
+    requires { ⌜ (d ≤ 64) × (c ≤ 64) ⌝ }
+{
+    let mut deviations = [0u64; 64];
+    let mut coefficients = [0u64; 64];
     words_from(bytes, 10, &mut deviations);
     words_from(bytes, 10 + 8 * d, &mut coefficients);
-    fill_marks(&mut out);
-    if m > 255 {
-        return;
-    }
+    matrix_out(bytes, &deviations[..d], &coefficients[..c], marks);
+}
+
+// A byte each: N, Cs, Cf, Clen, Sf, Slen, the room, how many deviations, coefficients and marks; then these, a mark being a byte.
+pub(crate) fn matrix_written(bytes: &[u8]) {
+    let d = least(small_at(bytes, 7), 64);
+    let c = least(small_at(bytes, 8), 64);
+    let m = least(small_at(bytes, 9), 255);
+    let behind = 10 + 8 * d + 8 * c;
     if bytes.len() < behind + m {
         return;
     }
-    let said = matrixwriter::write(
-        fields_of(bytes),
-        &deviations[..d],
-        &coefficients[..c],
-        &bytes[behind..behind + m],
-        &mut out[1..1 + room],
-    );
+    matrix_of(bytes, d, c, &bytes[behind..behind + m]);
+}
+
+fn array_out(sizes: &[usize], element: usize, count: usize, room: usize)
+    requires { ⌜ (count ≤ 33000) × (room ≤ 33000) ⌝ }
+{
+    let mut out = [0u8; 33024];
+    let array = [7u8; 33024];
+    fill_marks(&mut out);
+    let said = arraywriter::write(sizes, element, &array[..count], &mut out[1..1 + room]);
     say_written(said, &out);
 }
 
 // A byte for how many sizes; then in eight bytes each these, E, the length of the array (its bytes are 7) and the room.
-fn array_written(bytes: &[u8]) {
-    let mut out = [0u8; 33024];
-    let array = [7u8; 33024];
+pub(crate) fn array_written(bytes: &[u8]) {
     let dims = least(small_at(bytes, 0), 9);
     let behind = 1 + 8 * dims;
     let sizes = sizes_of(bytes);
-    fill_marks(&mut out);
     let element = size_at(bytes, behind);
     let count = least(size_at(bytes, behind + 8), 33000);
     let room = least(size_at(bytes, behind + 16), 33000);
-    let said = arraywriter::write(
-        &sizes[..dims],
-        element,
-        &array[..count],
-        &mut out[1..1 + room],
-    );
-    say_written(said, &out);
-}
-
-// A row of writing a matrix, "W", or an array.
-pub(crate) fn write_row(text: &[u8], out: &mut [u8])
-    requires { ⌜ 2 ≤ length (now text) ⌝ }
-{
-    let kind = text[0];
-    let n = decode(text, 2, out);
-    io::write_all(STDOUT_FILENO, text);
-    io::write_all(STDOUT_FILENO, b" ");
-    if kind == 87 {
-        matrix_written(&out[..n]);
-        return;
-    }
-    array_written(&out[..n]);
+    array_out(&sizes[..dims], element, count, room);
 }

@@ -18,12 +18,6 @@ slice-aggregate-fill-marks c = search needs
 fill-marks-requires : tie.Need-fill-marks-requires
 fill-marks-requires c κs = search needs
 
-least-requires : tie.Need-least-requires
-least-requires c κs = search needs
-
-least-requires-2 : tie.Need-least-requires-2
-least-requires-2 c κs = search needs
-
 add-expand : tie.Need-add-expand
 add-expand c = search needs
 
@@ -51,28 +45,14 @@ part-marks-end c = search needs
 expand-requires : tie.Need-expand-requires
 expand-requires c κs = search needs
 
-say-verdict-requires : tie.Need-say-verdict-requires
-say-verdict-requires c κs = search needs
-
-size-in-requires : tie.Need-size-in-requires
-size-in-requires c κs = search needs
-
-filled-requires : tie.Need-filled-requires
-filled-requires c κs = search needs
+said-size-requires : tie.Need-said-size-requires
+said-size-requires c κs = search needs
 
 slice-aggregate-say-expanded : tie.Need-slice-aggregate-say-expanded
-slice-aggregate-say-expanded c =
-    let b = c .before .before .before .before .before in
-    sym
-    (same-len-mid {X = ℕ} 1 (1 + b .before .before .before .before .before .least .result - 1) (b .before .before .before .before .before .before .before .before .before .before .fill-words .last .0) (b .before .expand .last .1 .0) (b .words4 .given)
-    ∙ b .before .before .before .before .before .before .before .before .before .words2 .given)
+slice-aggregate-say-expanded c = sym (same-len-mid {X = ℕ} 1 (1 + c .before .before .before .before .before .before .before .before .before .before .before .before .before .before .args .w - 1) (c .before .before .before .before .before .before .before .before .before .before .before .fill-words .last .0) (c .before .before .before .before .expand .last .1 .0) (c .before .before .before .words4 .given) ∙ c .before .before .before .before .before .before .before .before .before .before .words2 .given)
 
 slice-aggregate-say-expanded-2 : tie.Need-slice-aggregate-say-expanded-2
-slice-aggregate-say-expanded-2 c =
-    let b = c .before .before .before .before .before in
-    sym
-    (same-len-mid {X = ℕ} 1 (1 + b .before .before .before .before .before .least2 .result - 1) (b .before .before .before .before .before .before .before .before .fill-marks .last .0) (b .before .before .expand .last .1 .1 .0) (b .marks4 .given)
-    ∙ b .before .before .before .before .before .before .before .marks2 .given)
+slice-aggregate-say-expanded-2 c = sym (same-len-mid {X = ℕ} 1 (1 + c .before .before .before .before .before .before .before .before .before .before .before .before .before .before .before .args .m - 1) (c .before .before .before .before .before .before .before .before .before .fill-marks .last .0) (c .before .before .before .before .before .expand .last .1 .1 .0) (c .before .before .before .marks4 .given) ∙ c .before .before .before .before .before .before .before .before .marks2 .given)
 
 say-expanded-requires : tie.Need-say-expanded-requires
 say-expanded-requires c κs = search needs
@@ -88,8 +68,6 @@ expanded-spec =
     fill-words-requires
     slice-aggregate-fill-marks
     fill-marks-requires
-    least-requires
-    least-requires-2
     add-expand
     sub-expand
     part-words-start
@@ -99,9 +77,7 @@ expanded-spec =
     part-marks-start
     part-marks-end
     expand-requires
-    say-verdict-requires
-    size-in-requires
-    filled-requires
+    said-size-requires
     slice-aggregate-say-expanded
     slice-aggregate-say-expanded-2
     say-expanded-requires

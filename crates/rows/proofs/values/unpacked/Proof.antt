@@ -24,15 +24,6 @@ slice-aggregate-fill-marks c = search needs
 fill-marks-requires : tie.Need-fill-marks-requires
 fill-marks-requires c κs = search needs
 
-least-requires : tie.Need-least-requires
-least-requires c κs = search needs
-
-least-requires-2 : tie.Need-least-requires-2
-least-requires-2 c κs = search needs
-
-least-requires-3 : tie.Need-least-requires-3
-least-requires-3 c κs = search needs
-
 add-unpack : tie.Need-add-unpack
 add-unpack c = search needs
 
@@ -72,35 +63,17 @@ part-marks-end c = search needs
 unpack-requires : tie.Need-unpack-requires
 unpack-requires c κs = search needs
 
-say-verdict-requires : tie.Need-say-verdict-requires
-say-verdict-requires c κs = search needs
-
-size-in-requires : tie.Need-size-in-requires
-size-in-requires c κs = search needs
-
-filled-requires : tie.Need-filled-requires
-filled-requires c κs = search needs
+said-size-requires : tie.Need-said-size-requires
+said-size-requires c κs = search needs
 
 slice-aggregate-say-unpacked : tie.Need-slice-aggregate-say-unpacked
-slice-aggregate-say-unpacked c =
-    let b = c .before .before .before .before .before .before in
-    sym
-    (same-len-mid {X = ℕ} 1 (1 + b .before .before .before .before .before .before .before .least .result - 1) (b .before .before .before .before .before .before .before .before .before .before .before .before .before .before .before .fill-words .last .0) (b .before .unpack .last .1 .0) (b .deviations4 .given)
-    ∙ b .before .before .before .before .before .before .before .before .before .before .before .before .before .before .deviations2 .given)
+slice-aggregate-say-unpacked c = sym (same-len-mid {X = ℕ} 1 (1 + c .before .before .before .before .before .before .before .before .before .before .before .before .before .before .before .before .before .before .before .args .d - 1) (c .before .before .before .before .before .before .before .before .before .before .before .before .before .before .before .before .fill-words .last .0) (c .before .before .before .before .before .unpack .last .1 .0) (c .before .before .before .before .deviations4 .given) ∙ c .before .before .before .before .before .before .before .before .before .before .before .before .before .before .before .deviations2 .given)
 
 slice-aggregate-say-unpacked-2 : tie.Need-slice-aggregate-say-unpacked-2
-slice-aggregate-say-unpacked-2 c =
-    let b = c .before .before .before .before .before .before in
-    sym
-    (same-len-mid {X = ℕ} 1 (1 + b .before .before .before .before .before .before .before .least2 .result - 1) (b .before .before .before .before .before .before .before .before .before .before .before .before .before .fill-words2 .last .0) (b .before .before .unpack .last .1 .1 .0) (b .coefficients4 .given)
-    ∙ b .before .before .before .before .before .before .before .before .before .before .before .before .coefficients2 .given)
+slice-aggregate-say-unpacked-2 c = sym (same-len-mid {X = ℕ} 1 (1 + c .before .before .before .before .before .before .before .before .before .before .before .before .before .before .before .before .before .before .before .before .args .c - 1) (c .before .before .before .before .before .before .before .before .before .before .before .before .before .before .fill-words2 .last .0) (c .before .before .before .before .before .before .unpack .last .1 .1 .0) (c .before .before .before .before .coefficients4 .given) ∙ c .before .before .before .before .before .before .before .before .before .before .before .before .before .coefficients2 .given)
 
 slice-aggregate-say-unpacked-3 : tie.Need-slice-aggregate-say-unpacked-3
-slice-aggregate-say-unpacked-3 c =
-    let b = c .before .before .before .before .before .before in
-    sym
-    (same-len-mid {X = ℕ} 1 (1 + b .before .before .before .before .before .before .before .least3 .result - 1) (b .before .before .before .before .before .before .before .before .before .before .before .fill-marks .last .0) (b .before .before .before .unpack .last .1 .1 .1 .0) (b .marks4 .given)
-    ∙ b .before .before .before .before .before .before .before .before .before .before .marks2 .given)
+slice-aggregate-say-unpacked-3 c = sym (same-len-mid {X = ℕ} 1 (1 + c .before .before .before .before .before .before .before .before .before .before .before .before .before .before .before .before .before .before .before .before .before .args .m - 1) (c .before .before .before .before .before .before .before .before .before .before .before .before .fill-marks .last .0) (c .before .before .before .before .before .before .before .unpack .last .1 .1 .1 .0) (c .before .before .before .before .marks4 .given) ∙ c .before .before .before .before .before .before .before .before .before .before .before .marks2 .given)
 
 say-unpacked-requires : tie.Need-say-unpacked-requires
 say-unpacked-requires c κs = search needs
@@ -118,9 +91,6 @@ unpacked-spec =
     fill-words-requires-2
     slice-aggregate-fill-marks
     fill-marks-requires
-    least-requires
-    least-requires-2
-    least-requires-3
     add-unpack
     sub-unpack
     part-deviations-start
@@ -134,9 +104,7 @@ unpacked-spec =
     part-marks-start
     part-marks-end
     unpack-requires
-    say-verdict-requires
-    size-in-requires
-    filled-requires
+    said-size-requires
     slice-aggregate-say-unpacked
     slice-aggregate-say-unpacked-2
     slice-aggregate-say-unpacked-3

@@ -1,9 +1,7 @@
--- `writes::array_written` is safe: what was lent from the middle is given back in its length. Assumes nothing.
-use Prim.Native.Nat.{ℕ, _+_, _-_}
-use mathlib.Core.Path.{_∙_, sym}
+-- `writes::array_written` is safe: the sizes are within their list. Assumes nothing.
+use mathlib.Core.Path.{sym}
 use lib.Seq.{length-take-le}
 use native.Mathlib.Omega.{arith}
-use borrow.Rule.Slice.PartMut.{same-len-mid}
 use borrow.Author.Needs.{needs}
 use Rattle.rows.proofs.writes.array_written.Statement.{statement}
 use Rattle.rows.proofs.writes.array_written.Tie as tie
@@ -22,12 +20,6 @@ add-behind c = search needs
 
 sizes-of-requires : tie.Need-sizes-of-requires
 sizes-of-requires c κs = search needs
-
-slice-aggregate-fill-marks : tie.Need-slice-aggregate-fill-marks
-slice-aggregate-fill-marks c = search needs
-
-fill-marks-requires : tie.Need-fill-marks-requires
-fill-marks-requires c κs = search needs
 
 size-at-requires : tie.Need-size-at-requires
 size-at-requires c κs = search needs
@@ -53,39 +45,11 @@ least-requires-3 c κs = search needs
 array-share-prefix-sizes : tie.Need-array-share-prefix-sizes
 array-share-prefix-sizes c = search needs
 
-slice-aggregate-write : tie.Need-slice-aggregate-write
-slice-aggregate-write c = sym (length-take-le _ _ (omega arith))
+slice-aggregate-array-out : tie.Need-slice-aggregate-array-out
+slice-aggregate-array-out c = sym (length-take-le _ _ (omega arith))
 
-array-share-prefix-array : tie.Need-array-share-prefix-array
-array-share-prefix-array c = search needs
-
-slice-aggregate-write-2 : tie.Need-slice-aggregate-write-2
-slice-aggregate-write-2 c = sym (length-take-le _ _ (omega arith))
-
-add-write : tie.Need-add-write
-add-write c = search needs
-
-sub-write : tie.Need-sub-write
-sub-write c = search needs
-
-part-out-start : tie.Need-part-out-start
-part-out-start c = search needs
-
-part-out-end : tie.Need-part-out-end
-part-out-end c = search needs
-
-write-requires : tie.Need-write-requires
-write-requires c κs = search needs
-
-slice-aggregate-say-written : tie.Need-slice-aggregate-say-written
-slice-aggregate-say-written c =
-    let b = c .before in
-    let r = b .before .before .before .before .before in
-    let s = r .before .before .before .before .before in
-    sym (same-len-mid {X = ℕ} 1 (1 + r .least3 .result - 1) (s .before .fill-marks .last .0) (b .before .write .last .1 .1 .1 .0) (b .out4 .given) ∙ s .out2 .given)
-
-say-written-requires : tie.Need-say-written-requires
-say-written-requires c κs = search needs
+array-out-requires : tie.Need-array-out-requires
+array-out-requires c κs = search needs
 
 returns : tie.Need-returns
 returns c = search needs
@@ -99,8 +63,6 @@ array-written-spec =
     mul-behind
     add-behind
     sizes-of-requires
-    slice-aggregate-fill-marks
-    fill-marks-requires
     size-at-requires
     add-size-at
     size-at-requires-2
@@ -109,14 +71,6 @@ array-written-spec =
     size-at-requires-3
     least-requires-3
     array-share-prefix-sizes
-    slice-aggregate-write
-    array-share-prefix-array
-    slice-aggregate-write-2
-    add-write
-    sub-write
-    part-out-start
-    part-out-end
-    write-requires
-    slice-aggregate-say-written
-    say-written-requires
+    slice-aggregate-array-out
+    array-out-requires
     returns)
