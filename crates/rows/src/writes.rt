@@ -7,7 +7,6 @@ use crate::values::kept_marks;
 use crate::values::least;
 use crate::values::say_kept;
 use crate::values::say_marks;
-use libc::STDOUT_FILENO;
 use matrix::Fields;
 use verdict::Verdict;
 use word::bytes::Read;
