@@ -110,7 +110,7 @@ fn fill_full_row(
     Next { place, pair }
 }
 
-// Each of the usual lengths is a loop of its own to the compiler.
+// Words of two and of eight bytes are loops of their own to the compiler.
 fn fill_by_length(
     bytes: &[u8],
     found: Found,
@@ -126,7 +126,6 @@ fn fill_by_length(
 {
     match length {
         2 => fill_full_row(bytes, found, 2, row, next, words, marks),
-        4 => fill_full_row(bytes, found, 4, row, next, words, marks),
         8 => fill_full_row(bytes, found, 8, row, next, words, marks),
         _ => fill_full_row(bytes, found, length, row, next, words, marks),
     }
