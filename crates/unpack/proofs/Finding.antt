@@ -5,16 +5,15 @@ use mathlib.Core.List.{List}
 use native.Mathlib.Omega.{arith}
 use lib.ListN.{length, take, drop, length-take}
 use Rattle.verdict.specs.declared.Refusal.{Refusal}
-use Rattle.verdict.specs.declared.Verdict.{Verdict}
 use Rattle.verdict.specs.declared.Verdict.the-variants.{Complete, Unfinished, Refused}
 use Rattle.verdict.specs.Says.{Bytes}
 use Rattle.matrixwalk.specs.declared.Found.{Found}
-use Rattle.matrixwalk.specs.declared.Walked.{Walked}
 use Rattle.matrixwalk.specs.declared.Walked.the-variants.{Whole as WalkedWhole, Unfinished as WalkedUnfinished, Refused as WalkedRefused}
 use Rattle.matrix.specs.Meaning.{sum}
 use Rattle.matrix.specs.Spelling.{vectorBytes, marksOf, fieldsOf, meaningOf}
 use Rattle.matrix.specs.Machine.{verdictOf}
 use Rattle.matrixwalk.specs.Walk.{walkedFor, walkedOf}
+use Rattle.matrixwalk.proofs.Walking.{walk-said}
 use Rattle.matrix.proofs.Complete.{complete-meaning}
 use Rattle.matrix.proofs.Decoding.{pack-length}
 use Rattle.unpack.specs.Unpacking.{UnpackedBy, ExpandedBy}
@@ -30,20 +29,6 @@ complete-whole : (bytes : List ℕ) → Bytes bytes → (n : ℕ) → verdictOf 
 complete-whole bytes b n e =
     let x = complete-meaning bytes b n e in
     record { lawful = x .0; fields = refl; start = refl; within = omega (arith, pack-length (meaningOf bytes), ap length (x .1), length-take n bytes) }
-
--- the verdict that a walk's answer stands for
-abbrev pub verdictIn : Walked → Verdict
-verdictIn (WalkedWhole found) = Complete (found .length)
-verdictIn (WalkedUnfinished missing) = Unfinished missing
-verdictIn (WalkedRefused refusal) = Refused refusal
-
-verdict-back : (bytes : List ℕ) (v : Verdict) → verdictIn (walkedFor bytes v) ≡ v
-verdict-back bytes (Complete n) = refl
-verdict-back bytes (Unfinished missing) = refl
-verdict-back bytes (Refused refusal) = refl
-
-pub walk-said : (bytes : List ℕ) (walked : Walked) → walked ≡ walkedOf bytes → verdictOf bytes ≡ verdictIn walked
-walk-said bytes walked e = sym (ap verdictIn e ∙ verdict-back bytes (verdictOf bytes))
 
 -- a whole pack that was found stands in the bytes
 pub found-whole : (bytes : List ℕ) → Bytes bytes → (found : Found) → WalkedWhole found ≡ walkedOf bytes → Whole bytes found

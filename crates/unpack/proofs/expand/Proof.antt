@@ -5,7 +5,8 @@ use Rattle.verdict.specs.declared.Verdict.{Verdict}
 use Rattle.matrixwalk.specs.declared.Walked.the-variants.{Whole}
 use Rattle.matrix.specs.Spelling.{meaningOf}
 use Rattle.unpack.specs.Unpacking.{ExpandedFor}
-use Rattle.unpack.proofs.Finding.{walk-said, found-whole, expanded-unfinished, expanded-refused}
+use Rattle.matrixwalk.proofs.Walking.{walk-said}
+use Rattle.unpack.proofs.Finding.{found-whole, expanded-unfinished, expanded-refused}
 use borrow.Author.Needs.{needs}
 use Rattle.unpack.proofs.expand.Statement.{statement}
 use Rattle.unpack.proofs.expand.Tie as tie

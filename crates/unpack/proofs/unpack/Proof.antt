@@ -5,7 +5,8 @@ use Rattle.verdict.specs.declared.Verdict.{Verdict}
 use Rattle.matrixwalk.specs.declared.Walked.the-variants.{Whole}
 use Rattle.matrix.specs.Spelling.{meaningOf}
 use Rattle.unpack.specs.Unpacking.{UnpackedFor}
-use Rattle.unpack.proofs.Finding.{walk-said, found-whole, unpacked-unfinished, unpacked-refused}
+use Rattle.matrixwalk.proofs.Walking.{walk-said}
+use Rattle.unpack.proofs.Finding.{found-whole, unpacked-unfinished, unpacked-refused}
 use borrow.Author.Needs.{needs}
 use Rattle.unpack.proofs.unpack.Statement.{statement}
 use Rattle.unpack.proofs.unpack.Tie as tie
