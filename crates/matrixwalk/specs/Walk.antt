@@ -1,5 +1,5 @@
 -- What each part of the reader promises: its answer is the run's from where it stands.
-use Prim.Native.Nat.{ℕ, _+_, _-_, _*_, _/_, _^_, _≤_, _<_}
+use Prim.Native.Nat.{ℕ, suc, _+_, _-_, _*_, _/_, _^_, _≤_, _<_}
 use mathlib.Core.Path.{_≡_}
 use mathlib.Core.Bool.{cond}
 use mathlib.Core.List.{List, [], _∷_}
@@ -62,9 +62,13 @@ pub record Checks (bytes : List ℕ) (place until : ℕ) (rule : Rule) (broken :
   pub cut : broken ≡ until → (count : ℕ) (runs : List Run) → until < place + count * rule .length → until ≡ length bytes
       → verdictBehind (enter (runOf rule count ∷ runs)) bytes place ≡ Unfinished (place + count * rule .length - until + runBytes runs)
 
--- up to `until` no word of an unsigned rule breaks it whose greatest word has a higher first byte than this
+-- up to `until` no word of an unsigned rule breaks it whose greatest word's first byte is not below this
+abbrev pub SettledUnder : List ℕ → ℕ → ℕ → ℕ → ℕ → Type 0
+SettledUnder bytes place until n limit = (rule : Rule) → Sound rule → rule .sign ≡ 0 → rule .length ≡ n → limit ≤ rule .greatest / 256 ^ (rule .length - 1) → Checks bytes place until rule until
+
+-- and none of one whose greatest word has a higher first byte than this
 abbrev pub SettledBelow : List ℕ → ℕ → ℕ → ℕ → ℕ → Type 0
-SettledBelow bytes place until n most = (rule : Rule) → Sound rule → rule .sign ≡ 0 → rule .length ≡ n → most < rule .greatest / 256 ^ (rule .length - 1) → Checks bytes place until rule until
+SettledBelow bytes place until n most = SettledUnder bytes place until n (suc most)
 
 -- and none of any rule whose greatest word begins higher than this with two bytes, of which so much counts
 abbrev pub SettledByTwo : List ℕ → ℕ → ℕ → ℕ → ℕ → ℕ → Type 0
@@ -108,11 +112,15 @@ WalkFrom bytes (Whole found) = FoundIn bytes found
 WalkFrom bytes (WalkedUnfinished missing) = verdictOf bytes ≡ Unfinished missing
 WalkFrom bytes (WalkedRefused refusal) = verdictOf bytes ≡ Refused refusal
 
--- what a walk answers: of a complete pack its fields, the place of its first word, how many coefficients are sent and its length; else the verdict
-abbrev pub walkedFor : List ℕ → Verdict → Walked
-walkedFor bytes (Complete n) =
+-- what a walk finds of a complete pack: its fields, the place of its first word, how many coefficients are sent and its length
+abbrev pub foundOf : List ℕ → ℕ → Found
+foundOf bytes n =
     let f = fieldsOf bytes in
-    Whole (record { fields = f; words = 3 + vectorBytes f; sent = sum (marksOf f (take (vectorBytes f) (drop 3 bytes))); length = n })
+    record { fields = f; words = 3 + vectorBytes f; sent = sum (marksOf f (take (vectorBytes f) (drop 3 bytes))); length = n }
+
+-- what a walk answers: what it found, or the verdict
+abbrev pub walkedFor : List ℕ → Verdict → Walked
+walkedFor bytes (Complete n) = Whole (foundOf bytes n)
 walkedFor bytes (Unfinished missing) = WalkedUnfinished missing
 walkedFor bytes (Refused refusal) = WalkedRefused refusal
 

@@ -5,7 +5,7 @@ ghost use Prim.Native.Nat.{_+_, _-_, _*_, _/_, _%_, _^_, _≤_, _<_, min};
 ghost use lib.Bits.{bitAnd};
 ghost use lib.ListN.{length as count, getD};
 ghost use Rattle.rule.specs.Rules.{Sound, cleared};
-ghost use Rattle.matrixwalk.specs.Walk.{maskOf, LookedAt, Judges, Checks, SettledBelow, SettledByTwo, PassedFrom};
+ghost use Rattle.matrixwalk.specs.Walk.{maskOf, LookedAt, Judges, Checks, SettledUnder, SettledBelow, SettledByTwo, PassedFrom};
 use rule::rules::Rule;
 use verdict::Reason;
 use verdict::Refusal;
@@ -30,6 +30,9 @@ fn byte(bytes: &[u8], place: usize) -> usize
 {
     bytes[place] as usize
 }
+
+// Below so many bytes a loop over words is not worth making wide.
+const FEW: usize = 64;
 
 // What of a word's first byte counts: all of it, or what stands below the sign.
 fn mask_of(rule: Rule) -> usize
@@ -99,6 +102,21 @@ fn check_each(bytes: &[u8], place: usize, until: usize, rule: Rule) -> usize
         at += rule.length;
     }
     until
+}
+
+// Whether the first byte of each word up to a place is below a limit.
+fn all_below(bytes: &[u8], place: usize, until: usize, length: usize, limit: u8) -> bool
+    requires { ⌜ (1 ≤ length) × ((length ≤ 8) × ((place ≤ until) × (until ≤ count (now bytes)))) ⌝ }
+    ensures { λ r. ⌜ (r ≡ true → SettledUnder (now (bytes .entry)) place until length limit) ⌝ }
+{
+    let mut at = place;
+    while at < until {
+        if limit <= bytes[at] {
+            return false;
+        }
+        at += length;
+    }
+    true
 }
 
 fn greater(a: u8, b: u8) -> u8
@@ -197,14 +215,25 @@ fn settled_by_two(bytes: &[u8], place: usize, until: usize, rule: Rule) -> bool
     two_by_length(bytes, place, until, rule.length, mask) < two_of(rule.greatest, more)
 }
 
+// Whether the first byte of each word settles it, of a rule without a sign: few words one after the other, many at a time.
+fn settled_unsigned(bytes: &[u8], place: usize, until: usize, rule: Rule) -> bool
+    requires { ⌜ Sound rule × (1 ≤ rule .length) × (place ≤ until) × (until ≤ count (now bytes)) × (rule .sign ≡ 0) ⌝ }
+    ensures { λ r. ⌜ (r ≡ true → Checks (now (bytes .entry)) place until rule until) ⌝ }
+{
+    let limit = limit_at(rule.greatest, rule.length - 1);
+    if until - place < FEW {
+        return all_below(bytes, place, until, rule.length, limit as u8);
+    }
+    (greatest_by_length(bytes, place, until, rule.length) as usize) < limit
+}
+
 // Whether their first bytes alone settle that no word up to a place breaks its rule.
 fn settled(bytes: &[u8], place: usize, until: usize, rule: Rule) -> bool
     requires { ⌜ Sound rule × (1 ≤ rule .length) × (place ≤ until) × (until ≤ count (now bytes)) ⌝ }
     ensures { λ r. ⌜ (r ≡ true → Checks (now (bytes .entry)) place until rule until) ⌝ }
 {
     if rule.sign == 0 {
-        let most = greatest_by_length(bytes, place, until, rule.length) as usize;
-        return most < limit_at(rule.greatest, rule.length - 1);
+        return settled_unsigned(bytes, place, until, rule);
     }
     if rule.length == 1 {
         return false;

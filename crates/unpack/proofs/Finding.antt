@@ -1,29 +1,22 @@
 -- What a walk that finds a whole pack says of its bytes, and what unpacking and expanding answer behind each walk. Assumes nothing.
-use Prim.Native.Nat.{ℕ, _+_}
+use Prim.Native.Nat.{ℕ}
 use mathlib.Core.Path.{_≡_, refl, _∙_, ap, sym, subst}
 use mathlib.Core.List.{List}
 use native.Mathlib.Omega.{arith}
-use lib.ListN.{length, take, drop, length-take}
+use lib.ListN.{length, length-take}
 use Rattle.verdict.specs.declared.Refusal.{Refusal}
 use Rattle.verdict.specs.declared.Verdict.the-variants.{Complete, Unfinished, Refused}
 use Rattle.verdict.specs.Says.{Bytes}
 use Rattle.matrixwalk.specs.declared.Found.{Found}
 use Rattle.matrixwalk.specs.declared.Walked.the-variants.{Whole as WalkedWhole, Unfinished as WalkedUnfinished, Refused as WalkedRefused}
-use Rattle.matrix.specs.Meaning.{sum}
-use Rattle.matrix.specs.Spelling.{vectorBytes, marksOf, fieldsOf, meaningOf}
+use Rattle.matrix.specs.Spelling.{meaningOf}
 use Rattle.matrix.specs.Machine.{verdictOf}
-use Rattle.matrixwalk.specs.Walk.{walkedFor, walkedOf}
+use Rattle.matrixwalk.specs.Walk.{foundOf, walkedFor, walkedOf}
 use Rattle.matrixwalk.proofs.Walking.{walk-said}
 use Rattle.matrix.proofs.Complete.{complete-meaning}
 use Rattle.matrix.proofs.Decoding.{pack-length}
 use Rattle.unpack.specs.Unpacking.{UnpackedBy, ExpandedBy}
 use Rattle.unpack.specs.Found.{Whole}
-
--- what a walk finds of a complete pack
-abbrev foundOf : List ℕ → ℕ → Found
-foundOf bytes n =
-    let f = fieldsOf bytes in
-    record { fields = f; words = 3 + vectorBytes f; sent = sum (marksOf f (take (vectorBytes f) (drop 3 bytes))); length = n }
 
 complete-whole : (bytes : List ℕ) → Bytes bytes → (n : ℕ) → verdictOf bytes ≡ Complete n → Whole bytes (foundOf bytes n)
 complete-whole bytes b n e =
