@@ -96,10 +96,10 @@ module _ (state : State) (chunk buffer₀ out₀ : List ℕ) where
       -- up to the end of a piece
       sofar-piece : cameOf (state .number) (state .held) buffer₀ (length out₀) chunk ≡ further to (z .text) (cameOf (at .number) held′ buffer′ (length out₀ - at .written) (drop to chunk))
       sofar-piece =
-          let e : at .taken + (to - at .taken) ≡ to = omega (arith, p .forward) in
+          let e : at .taken + (to - at .taken) ≡ to = omega (arith, p .clear .forward) in
           let c : cameOf (state .number) (state .held) buffer₀ (length out₀) chunk ≡ further (at .taken) (z .text) (cameOf (at .number) (at .held) buffer (length out₀ - at .written) (drop (at .taken) chunk)) = z .came ∙ rw m in
           c
-          ∙ ap (further (at .taken) (z .text)) (came-piece chunk (to - at .taken) (at .taken) (at .number) (at .held) (length out₀ - at .written) buffer (omega (arith, p .forward, p .within)) (λ i l m. p .none i l (omega (arith, p .forward))))
+          ∙ ap (further (at .taken) (z .text)) (came-piece chunk (to - at .taken) (at .taken) (at .number) (at .held) (length out₀ - at .written) buffer (omega (arith, p .clear .forward, p .clear .within)) (λ i l m. p .clear .none i l (omega (arith, p .clear .forward))))
           ∙ further-further (at .taken) (to - at .taken) (z .text) [] _
           ∙ rw (e, append-nil, ← h, ← b)
 
@@ -111,14 +111,14 @@ module _ (state : State) (chunk buffer₀ out₀ : List ℕ) where
             text = z .text;
             counted = z .counted;
             room-left = z .room-left;
-            far = p .within;
+            far = p .clear .within;
             wrote = z .wrote;
             came =
                 sofar-piece ∙ ap (further to (z .text))
                 (either (eqb to (length chunk))
                 (λ e. came-end chunk (at .number) held′ (length out₀ - at .written) buffer′ to (omega (arith, eqb-true to (length chunk) e)))
                 (λ e.
-                let l : to < length chunk = omega (arith, eqb-false to (length chunk) e, p .within) in
+                let l : to < length chunk = omega (arith, eqb-false to (length chunk) e, p .clear .within) in
                 let r : length out - at .written < room = ltb-true (length out - at .written) room (sym (rw e) ∙ t) in
                 came-stop chunk (at .number) held′ (length out₀ - at .written) buffer′ to l (p .stops l) (omega (arith, sofar-length, r))));
           }

@@ -1,16 +1,16 @@
 -- Laws of the line buffer: what is kept of a piece, and how many characters are held, at once; and of the search for its end. Assumes nothing.
 use Prim.Native.Nat.{ℕ, zero, suc, _+_, _-_, _≤_, _<_, min}
 use mathlib.Core.Path.{_≡_, refl, _∙_, sym}
-use mathlib.Core.Bool.{false}
+use mathlib.Core.Bool.{Bool, true, false, not, _&&_}
 use mathlib.Core.List.{List, [], _∷_}
 use native.Mathlib.Omega.{arith}
-use borrow.Author.Tests.{ltb-true, ltb-false, ne-eqb}
+use borrow.Author.Tests.{ltb-true, ltb-false, eqb-false, ne-eqb, not-true}
 use lib.ListN.{length, take, getD, length-set}
 use lib.Seq.{take-nil}
 use lib.Dec.{eqb, ltb}
 use Rattle.verdict.proofs.Cases.{either}
 use Rattle.report.specs.Line.{longestLine}
-use Rattle.report.specs.Feeding.{heldOn, keptAll, heldAll, Piece}
+use Rattle.report.specs.Feeding.{heldOn, keptAll, heldAll, Clear, Piece}
 use Rattle.verdict.specs.Writing.{put}
 use Rattle.verdict.proofs.Putting.{put-none, put-one, put-put}
 
@@ -42,12 +42,7 @@ kept-all buffer held (c ∷ piece) h =
     let on : min (length piece) (longestLine - heldOn held) ≡ 0 = omega arith in
     rw (t, kept-all buffer (heldOn held) piece h, on, e) (put-none buffer (heldOn held) ∙ sym (put-none buffer held)))
 
--- no LF stands from a place of the chunk up to another
-pub record Clear (chunk : List ℕ) (from to : ℕ) : Type 0 where
-  pub forward : from ≤ to
-  pub within : to ≤ length chunk
-  pub none : (i : ℕ) → from ≤ i → i < to → eqb (getD chunk i 0) 10 ≡ false
-
+-- the search for LF
 module _ (chunk : List ℕ) (from : ℕ) where
   pub clear-none : from ≤ length chunk → Clear chunk from from
   clear-none h = record { forward = omega arith; within = h; none = λ i b k. absurd (omega arith) }
@@ -63,5 +58,18 @@ module _ (chunk : List ℕ) (from : ℕ) where
             (λ t. let e : i ≡ to = omega (arith, ltb-false i to t) in rw e (ne-eqb (getD chunk to 0) 10 d));
       }
 
-  pub clear-stops : (to : ℕ) → Clear chunk from to → (to < length chunk → getD chunk to 0 ≡ 10) → Piece chunk from to
-  clear-stops to s h = record { forward = s .forward; within = s .within; none = s .none; stops = h }
+  -- one character more, where a test of all so far says that there is none
+  pub clear-next : (i : ℕ) (none : Bool) → (none ≡ true → Clear chunk from (from + i)) → from + i < length chunk → none && not (eqb (getD chunk (from + i) 0) 10) ≡ true → Clear chunk from (from + (i + 1))
+  clear-next i true s h e =
+      let n : suc (from + i) ≡ from + (i + 1) = omega arith in
+      rw (← n) (clear-more (from + i) (s refl) h (eqb-false (getD chunk (from + i) 0) 10 (not-true (eqb (getD chunk (from + i) 0) 10) e)))
+  clear-next i false s h e = let z : _≡_ {A = ℕ} 0 1 = cc in absurd (omega arith)
+
+  -- none up to a place, and none from there on
+  pub clear-on : (middle to : ℕ) → Clear chunk from middle → Clear chunk middle to → Clear chunk from to
+  clear-on middle to s t =
+      record {
+        forward = omega (arith, s .forward, t .forward);
+        within = t .within;
+        none = λ i b k. either (ltb i middle) (λ u. s .none i b (ltb-true i middle u)) (λ u. t .none i (ltb-false i middle u) k);
+      }

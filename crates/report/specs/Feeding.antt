@@ -37,11 +37,15 @@ unfoldable pub heldAll : ℕ → ℕ → ℕ
 heldAll held zero = held
 heldAll held (suc count) = heldAll (heldOn held) count
 
--- from a place of the chunk up to another there is no LF, and one stands there or the chunk ends
-pub record Piece (chunk : List ℕ) (from to : ℕ) : Type 0 where
+-- from a place of the chunk up to another there is no LF
+pub record Clear (chunk : List ℕ) (from to : ℕ) : Type 0 where
   pub forward : from ≤ to
   pub within : to ≤ length chunk
   pub none : (i : ℕ) → from ≤ i → i < to → eqb (getD chunk i 0) 10 ≡ false
+
+-- and one stands there, or the chunk ends
+pub record Piece (chunk : List ℕ) (from to : ℕ) : Type 0 where
+  pub clear : Clear chunk from to
   pub stops : to < length chunk → getD chunk to 0 ≡ 10
 
 -- the answer to the line that is held

@@ -1,12 +1,13 @@
 // The report on an input that is fed in chunks: what a read happened to give makes no difference.
 ghost use mathlib.Core.Path.{_≡_};
+ghost use mathlib.Core.Bool.{true};
 ghost use Prim.Native.Nat.{_+_, _-_, _≤_, min};
 ghost use lib.ListN.{length};
 ghost use Rattle.frame.specs.Frame.{refusing};
 ghost use Rattle.text.specs.Writing.{room};
 ghost use Rattle.report.specs.Line.{longestLine, lineAnswer};
 ghost use Rattle.report.specs.Report.{nextNumber};
-ghost use Rattle.report.specs.Feeding.{Piece, keptAll, heldAll, heldAnswer, Closed, Goes, Onward, Fed, FedBy, Finished};
+ghost use Rattle.report.specs.Feeding.{Clear, Piece, keptAll, heldAll, heldAnswer, Closed, Goes, Onward, Fed, FedBy, Finished};
 use frame::Answer;
 use frame::Kind;
 use frame::Outcome;
@@ -80,12 +81,42 @@ fn held_answer(line: &[u8], held: usize, bytes: &mut [u8]) -> Answer
     line_answer(&line[..held], bytes)
 }
 
+// Whether no LF stands in so many characters; each is looked at, so that the loop has no branch.
+fn no_end(chunk: &[u8], from: usize, size: usize) -> bool
+    requires { ⌜ from + size ≤ length (now chunk) ⌝ }
+    ensures { λ r. ⌜ (r ≡ true → Clear (now (chunk .entry)) from (from + size)) ⌝ }
+{
+    let mut none = true;
+    let mut i = 0;
+    while i < size {
+        none = none & (chunk[from + i] != 10);
+        i += 1;
+    }
+    none
+}
+
+// Past blocks of so many characters without LF.
+fn pass_blocks(chunk: &[u8], from: usize, size: usize) -> usize
+    requires { ⌜ (1 ≤ size) × (from ≤ length (now chunk)) ⌝ }
+    ensures { λ r. ⌜ Clear (now (chunk .entry)) from r ⌝ }
+{
+    let mut to = from;
+    while size <= chunk.len() - to {
+        if !no_end(chunk, to, size) {
+            return to;
+        }
+        to += size;
+    }
+    to
+}
+
 // The place of the first LF from a place on, or the chunk's end.
 fn piece_end(chunk: &[u8], from: usize) -> usize
     requires { ⌜ from ≤ length (now chunk) ⌝ }
     ensures { λ r. ⌜ Piece (now (chunk .entry)) from r ⌝ }
 {
-    let mut to = from;
+    let large = pass_blocks(chunk, from, 32);
+    let mut to = pass_blocks(chunk, large, 8);
     while to < chunk.len() {
         if chunk[to] == 10 {
             return to;

@@ -57,7 +57,7 @@ close-requires c κs =
     let i = c .before .before .before in
     let e = i .before .before .before .before .before .before .before in
     let s = e .before .before .before .before .before in
-    let g = goes-on (e .piece-end .result) (length (now (s .args .chunk))) (length (now (s .args .out)) - s .args .at .written) (e .piece-end .ensures .within) (i .if1 .left) in
+    let g = goes-on (e .piece-end .result) (length (now (s .args .chunk))) (length (now (s .args .out)) - s .args .at .written) (e .piece-end .ensures .clear .within) (i .if1 .left) in
     (omega (arith, s .pre .holds), (omega (arith, s .pre .spells), omega (arith, s .pre .room-left, g .1)))
 
 next-number-requires : tie.Need-next-number-requires
@@ -84,9 +84,9 @@ returns-2 c =
     let e = k .before .before .before in
     let s = e .before .before .before .before .before in
     let a = s .args in
-    let g = goes-on (e .piece-end .result) (length (now (a .chunk))) (length (now (a .out)) - a .at .written) (e .piece-end .ensures .within) (i .if1 .left) in (
+    let g = goes-on (e .piece-end .result) (length (now (a .chunk))) (length (now (a .out)) - a .at .written) (e .piece-end .ensures .clear .within) (i .if1 .left) in (
       rw (c .next-number .ensures) (record {
-        nearer = λ t. omega (arith, e .piece-end .ensures .forward);
+        nearer = λ t. omega (arith, e .piece-end .ensures .clear .forward);
         sofar = λ state buffer₀ out₀ z. sofar-closed state (now (a .chunk)) buffer₀ out₀ (a .at) (now (a .line)) (now (a .out)) z (s .pre .goes) (e .piece-end .result) (e .piece-end .ensures)
             (h .held-with .result) (h .held-with .ensures) _ (k .keep .ensures) (g .0) (g .1) (d .close .result) _ (d .close .ensures .0);
       }),
