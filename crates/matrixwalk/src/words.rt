@@ -159,12 +159,21 @@ fn greater_two(a: u16, b: u16) -> u16
     if a < b { b } else { a }
 }
 
+// The first two bytes of a word, the second the higher: so the compiler makes one load of them.
+fn swapped_at(bytes: &[u8], at: usize) -> u16
+    requires { ⌜ at + 1 < count (now bytes) ⌝ }
+    ensures { λ r. ⌜ r % 256 * 256 + r / 256 ≡ getD (now (bytes .entry)) at 0 * 256 + getD (now (bytes .entry)) (at + 1) 0 ⌝ }
+{
+    bytes[at] as u16 + bytes[at + 1] as u16 * 256
+}
+
 // What counts of the first two bytes of a word.
 fn two_at(bytes: &[u8], at: usize, mask: u16) -> u16
     requires { ⌜ at + 1 < count (now bytes) ⌝ }
     ensures { λ r. ⌜ r ≡ bitAnd (getD (now (bytes .entry)) at 0 * 256 + getD (now (bytes .entry)) (at + 1) 0) mask ⌝ }
 {
-    (bytes[at] as u16 * 256 + bytes[at + 1] as u16) & mask
+    let swapped = swapped_at(bytes, at);
+    (swapped % 256 * 256 + swapped / 256) & mask
 }
 
 // The greatest beginning, of two bytes, of the words up to a place; 65,535 where a word has only its first byte before that.

@@ -10,7 +10,7 @@ use lib.Seq.{take-nil}
 use lib.Dec.{eqb, ltb}
 use Rattle.verdict.proofs.Cases.{either}
 use Rattle.report.specs.Line.{longestLine}
-use Rattle.report.specs.Feeding.{heldOn, keptAll, heldAll, Clear, Piece}
+use Rattle.report.specs.Feeding.{heldOn, keptAll, heldAll, Clear}
 use Rattle.verdict.specs.Writing.{put}
 use Rattle.verdict.proofs.Putting.{put-none, put-one, put-put}
 

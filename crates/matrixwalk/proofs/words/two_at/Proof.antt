@@ -1,43 +1,20 @@
--- `matrixwalk::words::two_at` meets its contract: two bytes make a number of sixteen bits. Assumes nothing.
-use Prim.Native.Nat.{_+_}
-use native.Mathlib.Omega.{arith}
+-- `matrixwalk::words::two_at` meets its contract: the two bytes in their order, masked. Assumes nothing.
+use mathlib.Core.Path.{refl}
 use borrow.Author.Needs.{needs}
 use Rattle.matrixwalk.proofs.words.two_at.Statement.{statement}
 use Rattle.matrixwalk.proofs.words.two_at.Tie as tie
 
-shared-slice-read-result : tie.Need-shared-slice-read-result
-shared-slice-read-result c = search needs
-
-cast-result : tie.Need-cast-result
-cast-result c = omega (arith, c .shared-slice-known .given (c .before .args .at))
+swapped-at-requires : tie.Need-swapped-at-requires
+swapped-at-requires c κs = search needs
 
 mul-result : tie.Need-mul-result
-mul-result c = omega (arith, c .shared-slice-known .given (c .before .args .at))
+mul-result c = search needs
 
 add-result : tie.Need-add-result
 add-result c = search needs
 
-shared-slice-read-result-2 : tie.Need-shared-slice-read-result-2
-shared-slice-read-result-2 c = search needs
-
-cast-result-2 : tie.Need-cast-result-2
-cast-result-2 c = omega (arith, c .shared-slice-known2 .given (c .before .before .args .at + 1))
-
-add-result-2 : tie.Need-add-result-2
-add-result-2 c = omega (arith, c .before .shared-slice-known .given (c .before .before .args .at), c .shared-slice-known2 .given (c .before .before .args .at + 1))
-
 returns : tie.Need-returns
-returns c = search needs
+returns c = rw (c .swapped-at .ensures) refl
 
 pub two-at-spec : {M : Type 1} → statement M
-two-at-spec =
-    tie.close
-    (tie.spec
-    shared-slice-read-result
-    cast-result
-    mul-result
-    add-result
-    shared-slice-read-result-2
-    cast-result-2
-    add-result-2
-    returns)
+two-at-spec = tie.close (tie.spec swapped-at-requires mul-result add-result returns)

@@ -1,6 +1,5 @@
 -- `report::feed::pass_blocks` meets its contract. The loop's invariant: no LF so far. Assumes nothing.
 use Prim.Native.Nat.{_+_, _-_}
-use native.Mathlib.Omega.{arith}
 use borrow.Author.Tests.{not-false}
 use denote.Ref.{now}
 use lib.ListN.{length}
