@@ -79,6 +79,17 @@ fn short(bytes: &[u8], place: usize, positive: bool, product: usize) -> usize
     octet
 }
 
+// How great a number may be behind a product; the first takes no division.
+fn limit_behind(product: usize) -> usize
+    requires { ⌜ 1 ≤ product ⌝ }
+    ensures { λ r. ⌜ r ≡ most / product ⌝ }
+{
+    if product == 1 {
+        return MOST;
+    }
+    MOST / product
+}
+
 // A number that keeps the limit behind a product.
 fn draw_behind(bytes: &[u8], place: usize, positive: bool, product: usize) -> Drawn
     requires { ⌜ (1 ≤ product) × (product ≤ most) ⌝ }
@@ -91,8 +102,7 @@ fn draw_behind(bytes: &[u8], place: usize, positive: bool, product: usize) -> Dr
             next: place + 1,
         };
     }
-    let limit = MOST / product;
-    draw_from(bytes, place, positive, limit as u64)
+    draw_from(bytes, place, positive, limit_behind(product) as u64)
 }
 
 // The sizes behind NDim, which ends at `place`.
