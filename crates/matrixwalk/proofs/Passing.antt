@@ -263,6 +263,13 @@ module _ (bytes : List ℕ) (place until : ℕ) (rule : Rule) (fast : LookedAt b
 
 -- ---- words one after another
 
+-- what breaks the rule from a place on is what breaks it from the start, and past `until` nothing does
+abbrev pub Carries : List ℕ → ℕ → ℕ → Rule → ℕ → Type 0
+Carries bytes place until rule at = (at ≤ until → (broken : ℕ) → Checks bytes at until rule broken → Checks bytes place until rule broken) × (until < at → Checks bytes place until rule until)
+
+pub carries-start : (bytes : List ℕ) (place until : ℕ) (rule : Rule) → place ≤ until → Carries bytes place until rule place
+carries-start bytes place until rule h = (λ k broken c. c, λ k. absurd (omega arith))
+
 module _ (rule : Rule) (some : 1 ≤ rule .length) where
   -- into the first of some words
   enter-some : (bytes : List ℕ) (place count : ℕ) (runs : List Run) → verdictBehind (enter (runOf rule (suc count) ∷ runs)) bytes place ≡ verdictAt (wordOf rule (runOf rule count) runs) bytes place
@@ -273,7 +280,7 @@ module _ (rule : Rule) (some : 1 ≤ rule .length) where
       by n e = rw e
 
   module _ (bytes : List ℕ) (until : ℕ) where
-    pub checks-none : Checks bytes until until rule until
+    checks-none : Checks bytes until until rule until
     unfolding enter runBytes
     checks-none = record { within = omega arith; over = λ l. absurd (omega arith); whole = λ l. whole; cut = λ l. cut }
       where
@@ -311,18 +318,30 @@ module _ (rule : Rule) (some : 1 ≤ rule .length) where
       checks-over broken h j = checks-word broken (omega arith) (λ l count runs k. j .over h (runOf rule count) runs) (λ l. absurd (omega arith)) (λ l. absurd (omega arith))
 
       module _ (judges : Judges bytes at until rule until) where
-        pub checks-cut : until < at + rule .length → Checks bytes at until rule until
+        checks-cut : until < at + rule .length → Checks bytes at until rule until
         unfolding runBytes
         checks-cut h =
             checks-word until (omega arith) (λ l. absurd (omega arith)) (λ l count runs k. absurd (omega arith))
             (λ l count runs k e. judges .cut refl h e (runOf rule count) runs ∙ ap Unfinished (omega arith))
 
-        pub checks-next : at + rule .length ≤ until → (broken : ℕ) → Checks bytes (at + rule .length) until rule broken → Checks bytes at until rule broken
+        checks-next : at + rule .length ≤ until → (broken : ℕ) → Checks bytes (at + rule .length) until rule broken → Checks bytes at until rule broken
         checks-next h broken c =
             checks-word broken (c .within) (λ l count runs k. past count runs ∙ c .over l count runs k) (λ l count runs k. past count runs ∙ c .whole l count runs k) (λ l count runs k e. past count runs ∙ c .cut l count runs k e)
           where
             past : (count : ℕ) (runs : List Run) → There count runs ≡ verdictBehind (enter (runOf rule count ∷ runs)) bytes (at + rule .length)
             past count runs = judges .whole refl h (runOf rule count) runs
+
+    module _ (place at : ℕ) (c : Carries bytes place until rule at) where
+      -- past a word that breaks nothing
+      pub carries-next : (n : ℕ) → rule .length ≡ n → at < until → Judges bytes at until rule until → Carries bytes place until rule (at + n)
+      carries-next n long inside judged =
+          subst (λ (more : ℕ). Carries bytes place until rule (at + more)) long
+          (λ h broken k. c .0 (omega arith) broken (checks-next at inside judged h broken k), λ h. c .0 (omega arith) until (checks-cut at inside judged h))
+
+      pub carries-all : until ≤ at → Checks bytes place until rule until
+      carries-all h =
+          either (ltb until at) (λ t. c .1 (ltb-true until at t))
+          (λ t. let e : at ≡ until = omega (arith, ltb-false until at t) in c .0 (omega arith) until (rw e checks-none))
 
 -- ---- some words, and no others
 

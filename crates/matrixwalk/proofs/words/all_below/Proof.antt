@@ -1,16 +1,13 @@
 -- `matrixwalk::words::all_below` meets its contract. The loop's invariant: what breaks the rule from here on is what breaks it from the start, and past `until` nothing does. Assumes nothing.
-use Prim.Native.Nat.{ℕ, _+_, _-_, _/_, _^_, _≤_, _<_}
-use mathlib.Core.Path.{_≡_, sym, subst}
+use Prim.Native.Nat.{ℕ, _-_, _/_, _^_, _≤_, _<_}
+use mathlib.Core.Path.{_≡_}
 use native.Mathlib.Omega.{arith}
 use Rattle.rule.specs.declared.rules.Rule.{Rule}
 use Rattle.rule.specs.Rules.{Sound}
-use borrow.Author.Tests.{ltb-true, ltb-false}
 use denote.Ref.{now}
-use lib.Dec.{ltb}
 use lib.ListN.{getD}
-use Rattle.verdict.proofs.Cases.{either}
-use Rattle.matrixwalk.specs.Walk.{Judges, Checks}
-use Rattle.matrixwalk.proofs.Passing.{unsigned, first-below, checks-none, checks-cut, checks-next}
+use Rattle.matrixwalk.specs.Walk.{Judges}
+use Rattle.matrixwalk.proofs.Passing.{unsigned, first-below, Carries, carries-start, carries-next, carries-all}
 use borrow.Author.Needs.{needs}
 use Rattle.matrixwalk.proofs.words.all_below.Statement.{statement}
 use Rattle.matrixwalk.proofs.words.all_below.Tie as tie
@@ -18,13 +15,13 @@ use Rattle.matrixwalk.proofs.words.all_below.Tie as tie
 abbrev Inv-loop : tie.InvT-loop
 Inv-loop bytes place until length limit at₀ at =
     (rule : Rule) → Sound rule → rule .sign ≡ 0 → rule .length ≡ length → limit ≤ rule .greatest / 256 ^ (rule .length - 1)
-    → (at ≤ until → (broken : ℕ) → Checks bytes at until rule broken → Checks bytes place until rule broken) × (until < at → Checks bytes place until rule until)
+    → Carries bytes place until rule at
 
 abbrev μ-loop : tie.MeasureT-loop
 μ-loop bytes place until length limit at₀ at = until - at
 
 loop-holds : tie.Need-loop-holds Inv-loop μ-loop
-loop-holds c = λ rule sound plain long under. (λ h broken k. k, λ h. absurd (omega arith))
+loop-holds c = λ rule sound plain long under. carries-start _ _ _ rule (omega arith)
 
 shared-slice-read-if1 : tie.Need-shared-slice-read-if1 Inv-loop μ-loop
 shared-slice-read-if1 c = search needs
@@ -46,12 +43,9 @@ loop-again c = λ rule sound plain long under.
     let until = s .args .until in
     let some : 1 ≤ rule .length = omega (arith, long, s .pre .0) in
     let inside : l .at < until = c .before .before .loop-test .taken in
-    let before = l .inv rule sound plain long under .0 (omega arith) in
     let judged : Judges bytes (l .at) until rule until =
-    first-below bytes (l .at) until rule (record { sound = sound; some = some; before = inside; within = s .pre .1 .1 .1 }) (getD bytes (l .at) 0) (unsigned rule sound some plain (getD bytes (l .at) 0)) (λ i. c .before .shared-slice-known .given i .fits) (omega (arith, c .if1 .left, under)) in (
-      λ k broken n. before broken (checks-next rule some bytes until (l .at) inside judged (rw long k) broken (subst (λ (more : ℕ). Checks bytes (l .at + more) until rule broken) (sym long) n)),
-      λ k. before until (checks-cut rule some bytes until (l .at) inside judged (rw long k)),
-    )
+    first-below bytes (l .at) until rule (record { sound = sound; some = some; before = inside; within = s .pre .1 .1 .1 }) (getD bytes (l .at) 0) (unsigned rule sound some plain (getD bytes (l .at) 0)) (λ i. c .before .shared-slice-known .given i .fits) (omega (arith, c .if1 .left, under)) in
+    carries-next rule some bytes until (s .args .place) (l .at) (l .inv rule sound plain long under) (s .args .length) long inside judged
 
 returns-2 : tie.Need-returns-2 Inv-loop μ-loop
 returns-2 c = λ e rule sound plain long under.
@@ -59,10 +53,7 @@ returns-2 c = λ e rule sound plain long under.
     let s = c .before .before in
     let bytes = now (s .args .bytes) in
     let until = s .args .until in
-    let inv = l .inv rule sound plain long under in
-    either (ltb until (l .at)) (λ t. inv .1 (ltb-true until (l .at) t))
-    (λ t. let e : l .at ≡ until = omega (arith, ltb-false until (l .at) t) in
-    inv .0 (omega arith) until (rw e (checks-none rule (omega (arith, long, s .pre .0)) bytes until)))
+    carries-all rule (omega (arith, long, s .pre .0)) bytes until (s .args .place) (l .at) (l .inv rule sound plain long under) (omega arith)
 
 pub all-below-spec : {M : Type 1} → statement M
 all-below-spec =

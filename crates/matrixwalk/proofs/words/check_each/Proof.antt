@@ -1,18 +1,15 @@
 -- `matrixwalk::words::check_each` meets its contract. The loop's invariant: what breaks the rule from here on is what breaks it from the start, and past `until` nothing does. Assumes nothing.
-use Prim.Native.Nat.{ℕ, _-_, _≤_, _<_}
-use mathlib.Core.Path.{_≡_, _∙_}
+use Prim.Native.Nat.{_-_}
+use mathlib.Core.Path.{_≡_, refl, _∙_}
 use native.Mathlib.Omega.{arith}
 use borrow.Author.Needs.{needs}
-use borrow.Author.Tests.{ltb-true, ltb-false}
-use lib.Dec.{ltb}
-use Rattle.verdict.proofs.Cases.{either}
-use Rattle.matrixwalk.specs.Walk.{Judges, Checks}
-use Rattle.matrixwalk.proofs.Passing.{first-limit, checks-none, checks-over, checks-cut, checks-next}
+use Rattle.matrixwalk.specs.Walk.{Judges}
+use Rattle.matrixwalk.proofs.Passing.{first-limit, checks-over, Carries, carries-start, carries-next, carries-all}
 use Rattle.matrixwalk.proofs.words.check_each.Statement.{statement}
 use Rattle.matrixwalk.proofs.words.check_each.Tie as tie
 
 abbrev Inv-loop : tie.InvT-loop
-Inv-loop bytes place until rule mask first at₀ at = (at ≤ until → (broken : ℕ) → Checks bytes at until rule broken → Checks bytes place until rule broken) × (until < at → Checks bytes place until rule until)
+Inv-loop bytes place until rule mask first at₀ at = Carries bytes place until rule at
 
 abbrev μ-loop : tie.MeasureT-loop
 μ-loop bytes place until rule mask first at₀ at = until - at
@@ -27,7 +24,7 @@ limit-at-requires : tie.Need-limit-at-requires Inv-loop μ-loop
 limit-at-requires c κs = search needs
 
 loop-holds : tie.Need-loop-holds Inv-loop μ-loop
-loop-holds c = (λ h broken k. k, λ h. absurd (omega arith))
+loop-holds c = carries-start _ _ _ _ (omega arith)
 
 judge-word-requires : tie.Need-judge-word-requires Inv-loop μ-loop
 judge-word-requires c κs =
@@ -57,19 +54,14 @@ loop-again c =
     let l = c .before .before .before .before .loop in
     let a = c .before .before .before .before .before .before .before .before .before .args in
     let e : j .result ≡ a .until = omega (arith, j .ensures .within) in
-    let k : Judges (a .bytes .now) (l .at) (a .until) (a .rule) (a .until) = rw e at (j .ensures) in (
-      λ h broken n. l .inv .0 (omega arith) broken (checks-next (a .rule) (omega arith) (a .bytes .now) (a .until) (l .at) (omega arith) k h broken n),
-      λ h. l .inv .0 (omega arith) (a .until) (checks-cut (a .rule) (omega arith) (a .bytes .now) (a .until) (l .at) (omega arith) k h),
-    )
+    let k : Judges (a .bytes .now) (l .at) (a .until) (a .rule) (a .until) = rw e at (j .ensures) in
+    carries-next (a .rule) (omega arith) (a .bytes .now) (a .until) (a .place) (l .at) (l .inv) (a .rule .length) refl (omega arith) k
 
 returns-2 : tie.Need-returns-2 Inv-loop μ-loop
 returns-2 c =
     let l = c .before .loop in
     let a = c .before .before .before .before .before .before .args in
-    either (ltb (a .until) (l .at)) (λ t. l .inv .1 (ltb-true (a .until) (l .at) t))
-    (λ t. let e : l .at ≡ a .until = omega (arith, ltb-false (a .until) (l .at) t) in
-    let k : Checks (a .bytes .now) (l .at) (a .until) (a .rule) (a .until) = rw e (checks-none (a .rule) (omega arith) (a .bytes .now) (a .until)) in
-    l .inv .0 (omega arith) (a .until) k)
+    carries-all (a .rule) (omega arith) (a .bytes .now) (a .until) (a .place) (l .at) (l .inv) (omega arith)
 
 pub check-each-spec : {M : Type 1} → statement M
 check-each-spec =

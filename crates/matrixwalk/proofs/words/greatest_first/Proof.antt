@@ -1,16 +1,13 @@
 -- `matrixwalk::words::greatest_first` meets its contract. The loop's invariant: below a limit's first byte, what breaks the rule from here on is what breaks it from the start, and past `until` nothing does. Assumes nothing.
-use Prim.Native.Nat.{ℕ, _+_, _-_, _/_, _^_, _≤_, _<_}
-use mathlib.Core.Path.{_≡_, sym, subst}
+use Prim.Native.Nat.{_-_, _/_, _^_, _≤_, _<_}
+use mathlib.Core.Path.{_≡_}
 use native.Mathlib.Omega.{arith}
 use Rattle.rule.specs.declared.rules.Rule.{Rule}
 use Rattle.rule.specs.Rules.{Sound}
-use borrow.Author.Tests.{ltb-true, ltb-false}
 use denote.Ref.{now}
-use lib.Dec.{ltb}
 use lib.ListN.{getD}
-use Rattle.verdict.proofs.Cases.{either}
-use Rattle.matrixwalk.specs.Walk.{Judges, Checks}
-use Rattle.matrixwalk.proofs.Passing.{limitFirst, unsigned, first-below, checks-none, checks-cut, checks-next}
+use Rattle.matrixwalk.specs.Walk.{Judges}
+use Rattle.matrixwalk.proofs.Passing.{limitFirst, unsigned, first-below, Carries, carries-start, carries-next, carries-all}
 use borrow.Author.Needs.{needs}
 use Rattle.matrixwalk.proofs.words.greatest_first.Statement.{statement}
 use Rattle.matrixwalk.proofs.words.greatest_first.Tie as tie
@@ -18,13 +15,13 @@ use Rattle.matrixwalk.proofs.words.greatest_first.Tie as tie
 abbrev Inv-loop : tie.InvT-loop
 Inv-loop bytes place until length most₀ at₀ most at =
     (rule : Rule) → Sound rule → rule .sign ≡ 0 → rule .length ≡ length → most < rule .greatest / 256 ^ (rule .length - 1)
-    → (at ≤ until → (broken : ℕ) → Checks bytes at until rule broken → Checks bytes place until rule broken) × (until < at → Checks bytes place until rule until)
+    → Carries bytes place until rule at
 
 abbrev μ-loop : tie.MeasureT-loop
 μ-loop bytes place until length most₀ at₀ most at = until - at
 
 loop-holds : tie.Need-loop-holds Inv-loop μ-loop
-loop-holds c = λ rule sound plain long below. (λ h broken k. k, λ h. absurd (omega arith))
+loop-holds c = λ rule sound plain long below. carries-start _ _ _ rule (omega arith)
 
 shared-slice-read-greater : tie.Need-shared-slice-read-greater Inv-loop μ-loop
 shared-slice-read-greater c = search needs
@@ -49,12 +46,9 @@ loop-again c =
     let h : g .result < limitFirst rule = below in
     let some : 1 ≤ rule .length = omega (arith, long, s .pre .0) in
     let inside : l .at < until = c .before .before .loop-test .taken in
-    let before = l .inv rule sound plain long (omega (arith, g .ensures .0)) .0 (omega arith) in
     let judged : Judges bytes (l .at) until rule until =
-    first-below bytes (l .at) until rule (record { sound = sound; some = some; before = inside; within = s .pre .1 .1 .1 }) (getD bytes (l .at) 0) (unsigned rule sound some plain (getD bytes (l .at) 0)) (λ i. c .before .before .before .before .shared-slice-known .given i .fits) (omega (arith, g .ensures .1)) in (
-      λ k broken n. before broken (checks-next rule some bytes until (l .at) inside judged (rw long k) broken (subst (λ (more : ℕ). Checks bytes (l .at + more) until rule broken) (sym long) n)),
-      λ k. before until (checks-cut rule some bytes until (l .at) inside judged (rw long k)),
-    )
+    first-below bytes (l .at) until rule (record { sound = sound; some = some; before = inside; within = s .pre .1 .1 .1 }) (getD bytes (l .at) 0) (unsigned rule sound some plain (getD bytes (l .at) 0)) (λ i. c .before .before .before .before .shared-slice-known .given i .fits) (omega (arith, g .ensures .1)) in
+    carries-next rule some bytes until (s .args .place) (l .at) (l .inv rule sound plain long (omega (arith, g .ensures .0))) (s .args .length) long inside judged
 
 returns : tie.Need-returns Inv-loop μ-loop
 returns c =
@@ -63,10 +57,7 @@ returns c =
     let s = c .before .before .before in
     let bytes = now (s .args .bytes) in
     let until = s .args .until in
-    let inv = l .inv rule sound plain long below in
-    either (ltb until (l .at)) (λ t. inv .1 (ltb-true until (l .at) t))
-    (λ t. let e : l .at ≡ until = omega (arith, ltb-false until (l .at) t) in
-    inv .0 (omega arith) until (rw e (checks-none rule (omega (arith, long, s .pre .0)) bytes until)))
+    carries-all rule (omega (arith, long, s .pre .0)) bytes until (s .args .place) (l .at) (l .inv rule sound plain long below) (omega arith)
 
 pub greatest-first-spec : {M : Type 1} → statement M
 greatest-first-spec =

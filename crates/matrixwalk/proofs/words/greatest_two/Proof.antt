@@ -1,17 +1,14 @@
 -- `matrixwalk::words::greatest_two` meets its contract. The loop's invariant: below a limit's first two bytes, what breaks the rule from here on is what breaks it from the start, and past `until` nothing does. Assumes nothing.
-use Prim.Native.Nat.{ℕ, _+_, _-_, _*_, _/_, _^_, _≤_, _<_}
-use mathlib.Core.Path.{_≡_, sym, subst, _∙_, ap}
+use Prim.Native.Nat.{_+_, _-_, _*_, _/_, _^_, _≤_, _<_}
+use mathlib.Core.Path.{_≡_, _∙_, ap}
 use native.Mathlib.Omega.{arith}
-use borrow.Author.Tests.{ltb-true, ltb-false}
 use denote.Ref.{now}
 use lib.Bits.{bitAnd}
-use lib.Dec.{ltb}
 use lib.ListN.{getD}
-use Rattle.verdict.proofs.Cases.{either}
 use Rattle.rule.specs.declared.rules.Rule.{Rule}
 use Rattle.rule.specs.Rules.{Sound}
-use Rattle.matrixwalk.specs.Walk.{maskOf, Judges, Checks}
-use Rattle.matrixwalk.proofs.Passing.{two-limit, two-below, checks-none, checks-cut, checks-next}
+use Rattle.matrixwalk.specs.Walk.{maskOf, Judges}
+use Rattle.matrixwalk.proofs.Passing.{two-limit, two-below, Carries, carries-start, carries-next, carries-all}
 use borrow.Author.Needs.{needs}
 use Rattle.matrixwalk.proofs.words.greatest_two.Statement.{statement}
 use Rattle.matrixwalk.proofs.words.greatest_two.Tie as tie
@@ -20,13 +17,13 @@ abbrev Inv-loop : tie.InvT-loop
 Inv-loop bytes place until length mask most₀ at₀ most at =
     (at ≤ until + 8)
     × ((rule : Rule) → Sound rule → rule .length ≡ length → mask ≡ maskOf rule * 256 + 255 → most < rule .greatest / 256 ^ (rule .length - 2)
-    → (at ≤ until → (broken : ℕ) → Checks bytes at until rule broken → Checks bytes place until rule broken) × (until < at → Checks bytes place until rule until))
+    → Carries bytes place until rule at)
 
 abbrev μ-loop : tie.MeasureT-loop
 μ-loop bytes place until length mask most₀ at₀ most at = until - at
 
 loop-holds : tie.Need-loop-holds Inv-loop μ-loop
-loop-holds c = (omega arith, λ rule sound long is below. (λ h broken k. k, λ h. absurd (omega arith)))
+loop-holds c = (omega arith, λ rule sound long is below. carries-start _ _ _ rule (omega arith))
 
 add-loop : tie.Need-add-loop Inv-loop μ-loop
 add-loop c = omega (arith, c .loop .inv .0)
@@ -59,13 +56,10 @@ loop-again c =
           let two : 2 ≤ rule .length = omega (arith, long, s .pre .0) in
           let some : 1 ≤ rule .length = omega arith in
           let inside : l .at < until = omega arith in
-          let before = l .inv .1 rule sound long is (omega (arith, g .ensures .0)) .0 (omega arith) in
           let judged : Judges bytes (l .at) until rule until =
           two-below bytes (l .at) until rule (record { sound = sound; some = some; before = inside; within = s .pre .1 .1 .1 }) two next (λ i. k .given i .fits) (t .result)
-          (t .ensures ∙ ap (bitAnd (getD bytes (l .at) 0 * 256 + getD bytes (l .at + 1) 0)) is) (omega (arith, g .ensures .1)) in (
-            λ e broken n. before broken (checks-next rule some bytes until (l .at) inside judged (rw long e) broken (subst (λ (more : ℕ). Checks bytes (l .at + more) until rule broken) (sym long) n)),
-            λ e. before until (checks-cut rule some bytes until (l .at) inside judged (rw long e)),
-          ),
+          (t .ensures ∙ ap (bitAnd (getD bytes (l .at) 0 * 256 + getD bytes (l .at + 1) 0)) is) (omega (arith, g .ensures .1)) in
+          carries-next rule some bytes until (s .args .place) (l .at) (l .inv .1 rule sound long is (omega (arith, g .ensures .0))) (s .args .length) long inside judged,
     )
 
 returns : tie.Need-returns Inv-loop μ-loop
@@ -82,10 +76,7 @@ returns-2 c =
     let s = c .before .before .before .before in
     let bytes = now (s .args .bytes) in
     let until = s .args .until in
-    let inv = l .inv .1 rule sound long is below in
-    either (ltb until (l .at)) (λ t. inv .1 (ltb-true until (l .at) t))
-    (λ t. let e : l .at ≡ until = omega (arith, ltb-false until (l .at) t, c .if1 .left) in
-    inv .0 (omega arith) until (rw e (checks-none rule (omega (arith, long, s .pre .0)) bytes until)))
+    carries-all rule (omega (arith, long, s .pre .0)) bytes until (s .args .place) (l .at) (l .inv .1 rule sound long is below) (omega (arith, c .if1 .left))
 
 pub greatest-two-spec : {M : Type 1} → statement M
 greatest-two-spec =
