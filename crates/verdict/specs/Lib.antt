@@ -4,3 +4,4 @@ pub mod Machine
 pub mod Rows
 pub mod Writing
 pub mod Judgement
+pub mod Stated
