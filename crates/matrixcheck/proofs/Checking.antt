@@ -8,6 +8,7 @@ use borrow.Author.Tests.{lt-ltb, le-ltb}
 use lib.Dec.{eqb}
 use lib.ListN.{length, take}
 use Rattle.verdict.specs.declared.Reason.{Reason}
+use Rattle.verdict.specs.declared.Refusal.{Refusal}
 use Rattle.verdict.specs.declared.Reason.the-variants.{Empty, ValueRange, Disagree}
 use Rattle.verdict.specs.Rows.{Row, Blamed}
 use Rattle.verdict.proofs.Judging.{Kept}
@@ -15,8 +16,8 @@ use Rattle.rule.specs.Rules.{deviationRule, coefficientRule}
 use Rattle.matrix.specs.declared.Fields.{Fields}
 use Rattle.matrix.specs.Meaning.{pairs, sum}
 use Rattle.matrixcheck.specs.declared.check.Checked.{Checked}
-use Rattle.matrixcheck.specs.declared.check.Checked.the-variants.{Sent, Broken}
-use Rattle.matrixcheck.specs.Checking.{checkedOf, Enough}
+use Rattle.matrixcheck.specs.declared.check.Checked.the-variants.{Sent, Refused}
+use Rattle.matrixcheck.specs.Checking.{refusedFor, checkedOf, Enough}
 use Rattle.matrixcheck.specs.Given.{deviationMarks, marksFit, sentFit, disagreeRows, valueRows}
 
 -- behind kept rules the later ones decide
@@ -25,12 +26,12 @@ checked-on [] more sent k = refl
 checked-on (row ∷ rows) more sent k = rw (k .0) (checked-on rows more sent (k .1))
 
 -- a broken rule decides alone
-pub checked-off : (rows more : List Row) (sent : ℕ) (reason : Reason) → Blamed rows reason → checkedOf (rows ++ more) sent ≡ Broken reason
+pub checked-off : (rows more : List Row) (sent : ℕ) (reason : Reason) → Blamed rows reason → checkedOf (rows ++ more) sent ≡ refusedFor reason
 unfolding Blamed
 checked-off [] more sent reason b = absurd b
 checked-off (row ∷ rows) more sent reason b = go (row .broken) b (checked-off rows more sent reason)
   where
-    go : (t : Bool) → cond t (row .reason ≡ reason) (Blamed rows reason) → (Blamed rows reason → checkedOf (rows ++ more) sent ≡ Broken reason) → cond t (Broken (row .reason)) (checkedOf (rows ++ more) sent) ≡ Broken reason
+    go : (t : Bool) → cond t (row .reason ≡ reason) (Blamed rows reason) → (Blamed rows reason → checkedOf (rows ++ more) sent ≡ refusedFor reason) → cond t (refusedFor (row .reason)) (checkedOf (rows ++ more) sent) ≡ refusedFor reason
     go true h f = rw h
     go false h f = f h
 
@@ -38,17 +39,19 @@ pub checked-kept : (rows : List Row) (sent s : ℕ) → checkedOf rows sent ≡ 
 checked-kept [] sent s e = (tt, cc)
 checked-kept (row ∷ rows) sent s e = go (row .broken) refl e (checked-kept rows sent s)
   where
-    go : (t : Bool) → row .broken ≡ t → cond t (Broken (row .reason)) (checkedOf rows sent) ≡ Sent s → (checkedOf rows sent ≡ Sent s → Kept rows × (s ≡ sent)) → ((row .broken ≡ false) × Kept rows) × (s ≡ sent)
+    go : (t : Bool) → row .broken ≡ t → cond t (refusedFor (row .reason)) (checkedOf rows sent) ≡ Sent s → (checkedOf rows sent ≡ Sent s → Kept rows × (s ≡ sent)) → ((row .broken ≡ false) × Kept rows) × (s ≡ sent)
     go true b h f = let z : _≡_ {A = ℕ} 0 1 = cc in absurd (omega arith)
     go false b h f = let k = f h in ((b, k .0), k .1)
 
-pub checked-blamed : (rows : List Row) (sent : ℕ) (reason : Reason) → checkedOf rows sent ≡ Broken reason → Blamed rows reason
+-- a refusal is the first broken rule's
+pub checked-refused : (rows : List Row) (sent : ℕ) (refusal : Refusal) → checkedOf rows sent ≡ Refused refusal → (reason : Reason) × Blamed rows reason × (refusal ≡ record { reason = reason; place = 0 })
 unfolding Blamed
-checked-blamed [] sent reason e = let z : _≡_ {A = ℕ} 0 1 = cc in absurd (omega arith)
-checked-blamed (row ∷ rows) sent reason e = go (row .broken) e (checked-blamed rows sent reason)
+checked-refused [] sent refusal e = let z : _≡_ {A = ℕ} 0 1 = cc in absurd (omega arith)
+checked-refused (row ∷ rows) sent refusal e = go (row .broken) e (checked-refused rows sent refusal)
   where
-    go : (t : Bool) → cond t (Broken (row .reason)) (checkedOf rows sent) ≡ Broken reason → (checkedOf rows sent ≡ Broken reason → Blamed rows reason) → cond t (row .reason ≡ reason) (Blamed rows reason)
-    go true h f = cc
+    go : (t : Bool) → cond t (refusedFor (row .reason)) (checkedOf rows sent) ≡ Refused refusal → (checkedOf rows sent ≡ Refused refusal → (reason : Reason) × Blamed rows reason × (refusal ≡ record { reason = reason; place = 0 }))
+        → (reason : Reason) × cond t (row .reason ≡ reason) (Blamed rows reason) × (refusal ≡ record { reason = reason; place = 0 })
+    go true h f = (row .reason, refl, cc)
     go false h f = f h
 
 -- ---- the rules of the lists
@@ -59,15 +62,15 @@ module _ (f : Fields) (deviations coefficients marks : List ℕ) where
     abbrev values : Checked
     values = checkedOf (valueRows f deviations coefficients marks) sent
 
-    pub values-empty : f .cs && (eqb (f .slen) 0 && eqb sent 0) ≡ true → Broken Empty ≡ values
+    pub values-empty : f .cs && (eqb (f .slen) 0 && eqb sent 0) ≡ true → refusedFor Empty ≡ values
     values-empty e = rw (← counted, e)
 
     module _ (some : f .cs && (eqb (f .slen) 0 && eqb sent 0) ≡ false) (fit : Bool) (tested : fit ≡ sentFit (deviationRule (f .sf) (f .slen)) (deviationMarks f) deviations) where
-      pub deviations-broken : not fit ≡ true → Broken ValueRange ≡ values
+      pub deviations-broken : not fit ≡ true → refusedFor ValueRange ≡ values
       deviations-broken e = rw (← counted, some, ← tested, e)
 
       module _ (kept : not fit ≡ false) (count : ℕ) (pairs-are : count ≡ pairs (f .n)) (all : Bool) (found : all ≡ sentFit (coefficientRule (f .cf) (f .clen)) (take count marks) coefficients) where
-        pub coefficients-broken : not all ≡ true → Broken ValueRange ≡ values
+        pub coefficients-broken : not all ≡ true → refusedFor ValueRange ≡ values
         coefficients-broken e = rw (← counted, some, ← tested, kept, ← pairs-are, ← found, e)
 
         pub values-kept : not all ≡ false → Sent sent ≡ values
@@ -77,18 +80,18 @@ module _ (f : Fields) (deviations coefficients marks : List ℕ) where
   abbrev lists : Checked
   lists = checkedOf (disagreeRows f deviations coefficients marks ++ valueRows f deviations coefficients marks) (sum (take (pairs (f .n)) marks))
 
-  pub few-deviations : length deviations < f .n → Broken Disagree ≡ lists
+  pub few-deviations : length deviations < f .n → refusedFor Disagree ≡ lists
   few-deviations h = rw (lt-ltb (length deviations) (f .n) h)
 
   module _ (enough : f .n ≤ length deviations) where
-    pub few-coefficients : length coefficients < pairs (f .n) → Broken Disagree ≡ lists
+    pub few-coefficients : length coefficients < pairs (f .n) → refusedFor Disagree ≡ lists
     few-coefficients h = rw (le-ltb (length deviations) (f .n) enough, lt-ltb (length coefficients) (pairs (f .n)) h)
 
-    pub few-marks : pairs (f .n) ≤ length coefficients → length marks < pairs (f .n) → Broken Disagree ≡ lists
+    pub few-marks : pairs (f .n) ≤ length coefficients → length marks < pairs (f .n) → refusedFor Disagree ≡ lists
     few-marks g h = rw (le-ltb (length deviations) (f .n) enough, le-ltb (length coefficients) (pairs (f .n)) g, lt-ltb (length marks) (pairs (f .n)) h)
 
   module _ (enough : Enough f deviations coefficients marks) where
-    pub marks-broken : marksFit f (take (pairs (f .n)) marks) ≡ false → Broken Disagree ≡ lists
+    pub marks-broken : marksFit f (take (pairs (f .n)) marks) ≡ false → refusedFor Disagree ≡ lists
     marks-broken e =
         rw (
           le-ltb (length deviations) (f .n) (enough .deviations-enough),

@@ -1,18 +1,18 @@
 -- Marks and words that fit, one more at a time. Assumes nothing.
 use Prim.Native.Nat.{ℕ, zero, suc, _+_, _*_, _≤_, _<_, min}
-use mathlib.Core.Path.{_≡_, refl, sym, ap, ap₂, _∙_}
+use mathlib.Core.Path.{_≡_, refl, sym, ap, ap₂, subst, _∙_}
 use mathlib.Core.Bool.{Bool, true, false, not, _&&_, _||_, cond, and-true, and-false, and-assoc}
 use mathlib.Core.List.{List, [], _∷_}
 use native.Mathlib.Numerals.{add-one}
 use native.Mathlib.Omega.{arith}
-use borrow.Author.Tests.{not-true, not-false, le-leb, lt-leb}
+use borrow.Author.Tests.{not-true, not-false, le-leb, leb-true}
 use lib.Dec.{eqb, leb}
 use lib.ListN.{length, take, drop, getD, replicate, length-replicate, getD-replicate}
-use lib.Seq.{length-take-le}
-use Rattle.verdict.specs.declared.Refusal.{Refusal}
+use lib.Seq.{length-take-le, getD-take}
 use Rattle.rule.specs.declared.rules.Rule.{Rule}
-use Rattle.rule.specs.declared.rules.Ruled.the-variants.{By, Refused}
-use Rattle.rule.specs.Rules.{admitted, cleared, allowed, ruledBy}
+use Rattle.rule.specs.Rules.{admitted, cleared}
+use Rattle.word.specs.Many.{gathered}
+use Rattle.word.proofs.Gathered.{gathered-most}
 use Rattle.matrix.specs.declared.Fields.{Fields}
 use Rattle.matrix.specs.Meaning.{sum}
 use Rattle.matrix.proofs.BitVector.{sum-same}
@@ -108,15 +108,20 @@ module _ (rule : Rule) where
   pub all-fit-next : (words : List ℕ) (i : ℕ) → true ≡ sentFit rule (replicate i 1) words → admitted rule (getD words i 0) ≡ true → true ≡ sentFit rule (replicate (i + 1) 1) words
   all-fit-next words i e k = rw (add-one, all-fit-more i words, ← e, k)
 
+  all-keep : (words : List ℕ) (count : ℕ) → ((i : ℕ) → i < count → admitted rule (getD words i 0) ≡ true) → sentFit rule (replicate count 1) words ≡ true
+  unfolding sentFit
+  all-keep words zero h = refl
+  all-keep words (suc count) h = rw (all-fit-more count words, all-keep words count (λ i l. h i (omega arith)), h count (omega arith))
+
   pub all-broken : (words : List ℕ) (i count : ℕ) → i < count → admitted rule (getD words i 0) ≡ false → false ≡ sentFit rule (replicate count 1) words
   all-broken words i count h e = sent-broken (replicate count 1) words i (rw length-replicate h) (rw (getD-replicate {A = ℕ} count i 1 0 h) e)
 
-  -- without a sign a word is compared as it is
-  pub unsigned-keeps : rule .sign ≡ 0 → (word : ℕ) → word ≤ rule .greatest → admitted rule word ≡ true
-  unsigned-keeps e word h = rw (unsigned-cleared e word) (le-leb word (rule .greatest) h)
-
-  pub unsigned-breaks : rule .sign ≡ 0 → (word : ℕ) → rule .greatest < word → admitted rule word ≡ false
-  unsigned-breaks e word h = rw (unsigned-cleared e word) (lt-leb word (rule .greatest) h)
+  -- without a sign, words keep the rule where all their bits together do
+  pub gathered-keeps : rule .sign ≡ 0 → (words : List ℕ) (count : ℕ) → count ≤ length words → admitted rule (gathered (take count words)) ≡ true → true ≡ sentFit rule (replicate count 1) words
+  gathered-keeps plain words count room e =
+      let most : gathered (take count words) ≤ rule .greatest = leb-true (gathered (take count words)) (rule .greatest) (rw (unsigned-cleared plain (gathered (take count words))) at e) in
+      sym (all-keep words count (λ i h. rw (unsigned-cleared plain (getD words i 0)) (le-leb (getD words i 0) (rule .greatest)
+      (omega (arith, most, subst (λ (w : ℕ). w ≤ gathered (take count words)) (getD-take count words i 0 h) (gathered-most (take count words) i))))))
 
   -- none is sent
   pub none-fit : (n : ℕ) (words : List ℕ) → sentFit rule (replicate n 0) words ≡ true
@@ -138,19 +143,10 @@ all-coefficients-fit f rule marks coefficients count keep fit room full some e =
     let same : take count marks ≡ replicate count 1 = full-marks f ms fit full ∙ rw (l, one) in
     e ∙ ap (λ (xs : List ℕ). sentFit rule xs coefficients) (sym same)
 
--- ---- the rule of a length that is allowed
-
-module _ (mapped : Bool) (n : ℕ) (rule : Rule) (lawful : allowed mapped n ≡ true) where
-  pub ruled-by : (found : Rule) → ruledBy mapped n rule ≡ By found → found ≡ rule
-  ruled-by found e = let r : By rule ≡ By found = rw lawful at e in cc
-
-  pub ruled-never : (refusal : Refusal) → ruledBy mapped n rule ≡ Refused refusal → ⊥
-  ruled-never refusal e = let r : By rule ≡ Refused refusal = rw lawful at e in let z : _≡_ {A = ℕ} 0 1 = cc in omega arith
-
 -- deviations without bytes all fit
 pub no-deviations-fit : (f : Fields) (rule : Rule) (deviations : List ℕ) → f .slen ≡ 0 → true ≡ sentFit rule (deviationMarks f) deviations
 no-deviations-fit f rule deviations e = rw e (sym (none-fit rule (f .n) deviations))
 
 -- deviations with bytes are all sent
-pub all-deviations-fit : (f : Fields) (rule found : Rule) (deviations : List ℕ) (fit : Bool) → (f .slen ≡ 0 → ⊥) → found ≡ rule → fit ≡ sentFit found (replicate (f .n) 1) deviations → fit ≡ sentFit rule (deviationMarks f) deviations
-all-deviations-fit f rule found deviations fit h r e = let m : min 1 (f .slen) ≡ 1 = omega arith in e ∙ rw (m, r)
+pub all-deviations-fit : (f : Fields) (rule : Rule) (deviations : List ℕ) (fit : Bool) → (f .slen ≡ 0 → ⊥) → fit ≡ sentFit rule (replicate (f .n) 1) deviations → fit ≡ sentFit rule (deviationMarks f) deviations
+all-deviations-fit f rule deviations fit h e = let m : min 1 (f .slen) ≡ 1 = omega arith in e ∙ rw m

@@ -3,23 +3,28 @@ use Prim.Native.Nat.{ℕ, _≤_}
 use mathlib.Core.Bool.{cond}
 use mathlib.Core.List.{List, [], _∷_}
 use lib.ListN.{length}
+use Rattle.verdict.specs.declared.Reason.{Reason}
 use Rattle.verdict.specs.Rows.{Row}
 use Rattle.matrix.specs.declared.Fields.{Fields}
 use Rattle.matrix.specs.Meaning.{pairs, sum}
 use Rattle.matrixcheck.specs.declared.check.Marked.{Marked}
 use Rattle.matrixcheck.specs.declared.check.Marked.the-variants.{Fit, Unfit}
 use Rattle.matrixcheck.specs.declared.check.Checked.{Checked}
-use Rattle.matrixcheck.specs.declared.check.Checked.the-variants.{Sent, Broken}
+use Rattle.matrixcheck.specs.declared.check.Checked.the-variants.{Sent, Refused}
 use Rattle.matrixcheck.specs.Given.{marksFit}
 
 -- how many marks are 1, where all fit
 abbrev pub markedOf : Fields → List ℕ → Marked
 markedOf f marks = cond (marksFit f marks) (Fit (sum marks)) Unfit
 
--- the first broken rule's reason, or so many sent
+-- a writer's refusal: its place is 0
+abbrev pub refusedFor : Reason → Checked
+refusedFor reason = Refused (record { reason = reason; place = 0 })
+
+-- the first broken rule's refusal, or so many sent
 abbrev pub checkedOf : List Row → ℕ → Checked
 checkedOf [] sent = Sent sent
-checkedOf (row ∷ rows) sent = cond (row .broken) (Broken (row .reason)) (checkedOf rows sent)
+checkedOf (row ∷ rows) sent = cond (row .broken) (refusedFor (row .reason)) (checkedOf rows sent)
 
 -- lists with enough entries
 pub record Enough (f : Fields) (deviations coefficients marks : List ℕ) : Type 0 where

@@ -4,18 +4,17 @@ ghost use mathlib.Core.Bool.{true, cond};
 ghost use mathlib.Core.List.{_++_};
 ghost use Prim.Native.Nat.{_≤_, min};
 ghost use lib.ListN.{length, take, replicate};
-ghost use Rattle.rule.specs.Rules.{deviationRule, coefficientRule};
+ghost use Rattle.rule.specs.Rules.{deviationRule, coefficientRule, ruleOf};
 ghost use Rattle.matrix.specs.Meaning.{pairs, sum, LawfulFields};
 ghost use Rattle.matrixcheck.specs.Given.{deviationMarks, marksFit, sentFit, disagreeRows, valueRows, givenRows};
-ghost use Rattle.matrixcheck.specs.Checking.{markedOf, checkedOf, Enough};
+ghost use Rattle.matrixcheck.specs.Checking.{refusedFor, markedOf, checkedOf, Enough};
 use matrix::Fields;
+use matrixhead::judge::Allowed;
 use matrixhead::judge::judge_fields;
-use rule::rules::Rule;
-use rule::rules::Ruled;
-use rule::rules::coefficient_rule;
-use rule::rules::deviation_rule;
-use verdict::Judged;
+use rule::rules::Form;
 use verdict::Reason;
+use verdict::Refusal;
+use word::many::gather;
 
 // How many coefficients are sent, or that a mark does not fit.
 pub(crate) enum Marked {
@@ -23,10 +22,17 @@ pub(crate) enum Marked {
     Unfit,
 }
 
-// How many coefficients are sent, or the reason of the first broken rule.
+// How many coefficients are sent, or the refusal of the first broken rule.
 pub enum Checked {
     Sent(usize),
-    Broken(Reason),
+    Refused(Refusal),
+}
+
+// A writer's refusal has place 0.
+fn refuse(reason: Reason) -> Checked
+    ensures { λ r. ⌜ r ≡ refusedFor reason ⌝ }
+{
+    Checked::Refused(Refusal { reason, place: 0 })
 }
 
 // M, how many pairs of variables there are.
@@ -96,14 +102,14 @@ fn marks_of(f: Fields, marks: &[u8], count: usize) -> Marked
     Marked::Fit(count * mark_of(f.clen) as usize)
 }
 
-// Whether so many words keep a rule that has no sign.
-fn unsigned_fit(rule: Rule, words: &[u64], count: usize) -> bool
-    requires { ⌜ (count ≤ length (now words)) × (rule .sign ≡ 0) ⌝ }
-    ensures { λ r. ⌜ r ≡ sentFit rule (replicate count 1) (now (words .entry)) ⌝ }
+// Whether so many words are of a form.
+fn each_fits(form: Form, words: &[u64], count: usize) -> bool
+    requires { ⌜ count ≤ length (now words) ⌝ }
+    ensures { λ r. ⌜ r ≡ sentFit (ruleOf form) (replicate count 1) (now (words .entry)) ⌝ }
 {
     let mut i = 0;
     while i < count {
-        if rule.greatest < words[i] {
+        if !form.admits(words[i]) {
             return false;
         }
         i += 1;
@@ -111,40 +117,27 @@ fn unsigned_fit(rule: Rule, words: &[u64], count: usize) -> bool
     true
 }
 
-// Whether so many words keep a rule.
-fn signed_fit(rule: Rule, words: &[u64], count: usize) -> bool
+// The same; mapped words are mostly told by all their bits together.
+fn words_fit(form: Form, words: &[u64], count: usize) -> bool
     requires { ⌜ count ≤ length (now words) ⌝ }
-    ensures { λ r. ⌜ r ≡ sentFit rule (replicate count 1) (now (words .entry)) ⌝ }
+    ensures { λ r. ⌜ r ≡ sentFit (ruleOf form) (replicate count 1) (now (words .entry)) ⌝ }
 {
-    let mut i = 0;
-    while i < count {
-        if !rule.admits(words[i]) {
-            return false;
+    if form.mapped {
+        if form.admits(gather(&words[..count])) {
+            return true;
         }
-        i += 1;
     }
-    true
+    each_fits(form, words, count)
 }
 
-// Whether so many words keep a rule; one without a sign wants less of each.
-fn words_fit(rule: Rule, words: &[u64], count: usize) -> bool
-    requires { ⌜ count ≤ length (now words) ⌝ }
-    ensures { λ r. ⌜ r ≡ sentFit rule (replicate count 1) (now (words .entry)) ⌝ }
-{
-    if rule.sign == 0 {
-        return unsigned_fit(rule, words, count);
-    }
-    signed_fit(rule, words, count)
-}
-
-// Whether those of so many words that are sent keep a rule.
-fn sent_fit(rule: Rule, words: &[u64], marks: &[u8], count: usize) -> bool
+// Whether those of so many words that are sent are of a form.
+fn sent_fit(form: Form, words: &[u64], marks: &[u8], count: usize) -> bool
     requires { ⌜ (count ≤ length (now words)) × (count ≤ length (now marks)) ⌝ }
-    ensures { λ r. ⌜ r ≡ sentFit rule (take count (now (marks .entry))) (now (words .entry)) ⌝ }
+    ensures { λ r. ⌜ r ≡ sentFit (ruleOf form) (take count (now (marks .entry))) (now (words .entry)) ⌝ }
 {
     let mut i = 0;
     while i < count {
-        if !((marks[i] == 0) | rule.admits(words[i])) {
+        if !((marks[i] == 0) | form.admits(words[i])) {
             return false;
         }
         i += 1;
@@ -153,48 +146,37 @@ fn sent_fit(rule: Rule, words: &[u64], marks: &[u8], count: usize) -> bool
 }
 
 fn deviations_fit(f: Fields, deviations: &[u64]) -> bool
-    requires { ⌜ LawfulFields f × (f .n ≤ length (now deviations)) ⌝ }
+    requires { ⌜ f .n ≤ length (now deviations) ⌝ }
     ensures { λ r. ⌜ r ≡ sentFit (deviationRule (f .sf) (f .slen)) (deviationMarks f) (now (deviations .entry)) ⌝ }
 {
     if f.slen == 0 {
         return true;
     }
-    let ruled = deviation_rule(f.sf, f.slen);
-    match ruled {
-        Ruled::By(rule) => words_fit(rule, deviations, f.n),
-        Ruled::Refused(_) => false,
-    }
-}
-
-fn coefficients_keep(
-    f: Fields,
-    rule: Rule,
-    coefficients: &[u64],
-    marks: &[u8],
-    count: usize,
-) -> bool
-    requires { ⌜ (count ≤ length (now coefficients)) × ((count ≤ length (now marks)) × ((marksFit f (take count (now marks)) ≡ true) × (1 ≤ f .clen))) ⌝ }
-    ensures { λ r. ⌜ r ≡ sentFit rule (take count (now (marks .entry))) (now (coefficients .entry)) ⌝ }
-{
-    if f.cs {
-        return sent_fit(rule, coefficients, marks, count);
-    }
-    words_fit(rule, coefficients, count)
+    let form = Form {
+        coefficients: false,
+        mapped: f.sf,
+        length: f.slen,
+    };
+    words_fit(form, deviations, f.n)
 }
 
 // Whether the coefficients that are sent keep their rule: by the marks if sparse, else all that have bytes.
 fn coefficients_fit(f: Fields, coefficients: &[u64], marks: &[u8], count: usize) -> bool
-    requires { ⌜ LawfulFields f × ((count ≤ length (now coefficients)) × ((count ≤ length (now marks)) × (marksFit f (take count (now marks)) ≡ true))) ⌝ }
+    requires { ⌜ (count ≤ length (now coefficients)) × ((count ≤ length (now marks)) × (marksFit f (take count (now marks)) ≡ true)) ⌝ }
     ensures { λ r. ⌜ r ≡ sentFit (coefficientRule (f .cf) (f .clen)) (take count (now (marks .entry))) (now (coefficients .entry)) ⌝ }
 {
     if f.clen == 0 {
         return true;
     }
-    let ruled = coefficient_rule(f.cf, f.clen);
-    match ruled {
-        Ruled::By(rule) => coefficients_keep(f, rule, coefficients, marks, count),
-        Ruled::Refused(_) => false,
+    let form = Form {
+        coefficients: true,
+        mapped: f.cf,
+        length: f.clen,
+    };
+    if f.cs {
+        return sent_fit(form, coefficients, marks, count);
     }
+    words_fit(form, coefficients, count)
 }
 
 // The values of lists with enough entries.
@@ -209,13 +191,13 @@ fn check_values(
     ensures { λ r. ⌜ r ≡ checkedOf (valueRows f (now (deviations .entry)) (now (coefficients .entry)) (now (marks .entry))) sent ⌝ }
 {
     if f.cs & ((f.slen == 0) & (sent == 0)) {
-        return Checked::Broken(Reason::Empty);
+        return refuse(Reason::Empty);
     }
     if !deviations_fit(f, deviations) {
-        return Checked::Broken(Reason::ValueRange);
+        return refuse(Reason::ValueRange);
     }
     if !coefficients_fit(f, coefficients, marks, pairs_of(f.n)) {
-        return Checked::Broken(Reason::ValueRange);
+        return refuse(Reason::ValueRange);
     }
     Checked::Sent(sent)
 }
@@ -227,27 +209,27 @@ fn check_lists(f: Fields, deviations: &[u64], coefficients: &[u64], marks: &[u8]
 {
     let count = pairs_of(f.n);
     if deviations.len() < f.n {
-        return Checked::Broken(Reason::Disagree);
+        return refuse(Reason::Disagree);
     }
     if coefficients.len() < count {
-        return Checked::Broken(Reason::Disagree);
+        return refuse(Reason::Disagree);
     }
     if marks.len() < count {
-        return Checked::Broken(Reason::Disagree);
+        return refuse(Reason::Disagree);
     }
     let marked = marks_of(f, marks, count);
     match marked {
         Marked::Fit(sent) => check_values(f, sent, deviations, coefficients, marks),
-        Marked::Unfit => Checked::Broken(Reason::Disagree),
+        Marked::Unfit => refuse(Reason::Disagree),
     }
 }
 
 pub fn check(f: Fields, deviations: &[u64], coefficients: &[u64], marks: &[u8]) -> Checked
     ensures { λ r. ⌜ r ≡ checkedOf (givenRows f (now (deviations .entry)) (now (coefficients .entry)) (now (marks .entry))) (sum (take (pairs (f .n)) (now (marks .entry)))) ⌝ }
 {
-    let judged = judge_fields(f);
-    match judged {
-        Judged::Kept => check_lists(f, deviations, coefficients, marks),
-        Judged::Broken(reason) => Checked::Broken(reason),
+    let allowed = judge_fields(f);
+    match allowed {
+        Allowed::Kept => check_lists(f, deviations, coefficients, marks),
+        Allowed::Refused(refusal) => Checked::Refused(refusal),
     }
 }

@@ -2,3 +2,4 @@ pub mod Heading
 pub mod Sending
 pub mod Beginning
 pub mod Only
+pub mod Judging

@@ -6,9 +6,17 @@ ghost use Rattle.matrix.specs.Meaning.{pairs};
 ghost use Rattle.matrix.specs.Spelling.{vectorBytes};
 ghost use Rattle.matrix.specs.Table.{sizeRows, coefficientRows, deviationRows, control1Rows, control2Rows, fieldRows, vectorRows};
 ghost use Rattle.verdict.specs.Judgement.{judgement};
+ghost use Rattle.matrixhead.specs.Judging.{allowedBy};
 use matrix::Fields;
 use verdict::Judged;
 use verdict::Reason;
+use verdict::Refusal;
+
+// What fields that a writer is given are answered: they keep their rules, or the refusal of the first that is broken.
+pub enum Allowed {
+    Kept,
+    Refused(Refusal),
+}
 
 // Whether a format allows a length.
 fn allows(mapped: bool, length: usize) -> bool
@@ -87,8 +95,8 @@ pub(crate) fn judge_control2(f: Fields, b: usize) -> Judged
     judge_deviations(f)
 }
 
-// Fields that a writer is given.
-pub fn judge_fields(f: Fields) -> Judged
+// Fields that a writer is given, by the rules in their order.
+fn judge_given(f: Fields) -> Judged
     ensures { λ r. ⌜ r ≡ judgement (fieldRows f) ⌝ }
 {
     if f.n == 0 {
@@ -101,6 +109,17 @@ pub fn judge_fields(f: Fields) -> Judged
     match judged {
         Judged::Kept => judge_deviations(f),
         Judged::Broken(reason) => Judged::Broken(reason),
+    }
+}
+
+// Fields that a writer is given.
+pub fn judge_fields(f: Fields) -> Allowed
+    ensures { λ r. ⌜ r ≡ allowedBy (judgement (fieldRows f)) ⌝ }
+{
+    let judged = judge_given(f);
+    match judged {
+        Judged::Kept => Allowed::Kept,
+        Judged::Broken(reason) => Allowed::Refused(Refusal { reason, place: 0 }),
     }
 }
 

@@ -3,7 +3,7 @@ use Prim.Native.Nat.{ℕ, zero, suc, _+_, _-_, _*_, _/_, _%_, _^_, _≤_, _<_, m
 use mathlib.Core.Path.{_≡_, refl, sym, ap, _∙_, subst}
 use mathlib.Core.List.{List, _∷_}
 use mathlib.Core.Logic.{⊎-elim}
-use native.Mathlib.Nat.{add-sub-cancel, suc-mul, zero-mul, mul-zero, mod-eq-of-lt, zero-div, pow-suc, one-le-pow, div-lt-iff-lt-mul}
+use native.Mathlib.Nat.{add-sub-cancel, suc-mul, zero-mul, mul-zero, mod-eq-of-lt, zero-div, pow-suc, one-le-pow, div-lt-iff-lt-mul, le-div-iff-mul-le, div-add-mod'}
 use native.Mathlib.Omega.{arith}
 use borrow.Author.Tests.{lt-ltb, le-ltb, eq-eqb, ne-eqb, leb-true, leb-false, ltb-true, ltb-false}
 use lib.Bits.{bitAnd, and-mask}
@@ -18,9 +18,10 @@ use Rattle.verdict.proofs.Cases.{by-test, either}
 use Rattle.verdict.specs.Machine.{Move, led}
 use Rattle.verdict.proofs.Reaching.{reach-cut, reach-step}
 use Rattle.rule.specs.declared.rules.Rule.{Rule}
-use Rattle.rule.specs.Rules.{Sound, cleared}
-use Rattle.rule.proofs.Certain.{sign-whole}
-use Rattle.word.proofs.Digits.{Below, bytes-bits}
+use Rattle.rule.specs.Rules.{Sound, Keeps, cleared}
+use Rattle.rule.proofs.Certain.{sign-whole, cleared-first}
+use Rattle.word.specs.Bytes.{wordAt}
+use Rattle.word.proofs.Digits.{Below, bytes-bits, word-below, word-front}
 use Rattle.matrix.specs.Machine.{State, word, Run, enter, enterWord, inWord, restOf, runBytes, step, least, verdictAt, verdictBehind}
 use Rattle.matrixwalk.specs.declared.words.Passed.the-variants.{Unfinished as PassedUnfinished, Refused as PassedRefused}
 use Rattle.matrixwalk.specs.Walk.{maskOf, overAt, wordOf, runOf, LookedAt, Judges, Checks, PassedTo, PassedFrom}
@@ -65,6 +66,14 @@ free-rest : (more b : ℕ) → restOf more (256 ^ suc more - 1) b ≡ 256 ^ more
 free-rest more b =
     by-test (λ (n : ℕ). n ≡ 256 ^ more - 1) (ltb b ((256 ^ suc more - 1) / 256 ^ more)) (256 ^ more - 1) ((256 ^ suc more - 1) % 256 ^ more) (λ t. refl)
     (λ t. rw (bytes-more more, bytes-bits more, ones-split 8 (8 * more)) (low 255 (8 * more) (ones-lt (8 * more))))
+
+-- behind a byte, the rest of a word that is at most its limit is at most what it may be
+rest-most : (more top b rest : ℕ) → rest < 256 ^ more → b * 256 ^ more + rest ≤ top → rest ≤ restOf more top b
+rest-most more top b rest small most =
+    by-test (λ (n : ℕ). rest ≤ n) (ltb b (top / 256 ^ more)) (256 ^ more - 1) (top % 256 ^ more) (λ t. omega arith)
+    (λ t. let p : 0 < 256 ^ more = one-le-pow more 256 (omega arith) in
+    let e : b ≡ top / 256 ^ more = omega (arith, ltb-false b (top / 256 ^ more) t, le-div-iff-mul-le {k = 256 ^ more} {x = b} {y = top} p .1 (omega arith)) in
+    omega (arith, ap (λ (k : ℕ). k * 256 ^ more) e, div-add-mod' top (256 ^ more)))
 
 -- ---- the first byte of a word
 
@@ -189,6 +198,17 @@ module _ (bytes : List ℕ) (place until : ℕ) (rule : Rule) (fast : LookedAt b
       (omega arith))
       (λ t. comes-end at (suc left) (256 ^ suc left - 1) k (omega (arith, ltb-false at until t)))
 
+  -- nor where the rest of the word is at most what it may be
+  comes-most : Below 256 bytes → (at left top : ℕ) → Comes bytes place rule at left top → at + left ≤ until → wordAt bytes at left ≤ top → Judges bytes place until rule until
+  comes-most below at zero top k h l = comes-end at zero top k (omega (arith, k .same))
+  comes-most below at (suc left) top k h l =
+      let b = getD bytes at 0 in
+      let p : 0 < 256 ^ left = one-le-pow left 256 (omega arith) in
+      let s : wordAt bytes at (suc left) ≡ b * 256 ^ left + wordAt bytes (at + 1) left = word-front bytes at left (omega arith) in
+      let most : b ≤ top / 256 ^ left = le-div-iff-mul-le {k = 256 ^ left} {x = b} {y = top} p .1 (omega (arith, s)) in
+      comes-most below (at + 1) left (restOf left top b) (comes-within at left top k (omega arith) most) (omega arith)
+      (rest-most left top b (wordAt bytes (at + 1) left) (word-below bytes (at + 1) left below) (omega (arith, s)))
+
   -- by the first byte, of which x counts
   module _ (x : ℕ) (counts : cleared (signFirst rule) (getD bytes place 0) ≡ x) where
     pub first-over : limitFirst rule < x → Judges bytes place until rule place
@@ -203,6 +223,20 @@ module _ (bytes : List ℕ) (place until : ℕ) (rule : Rule) (fast : LookedAt b
 
     pub first-below : Below 256 bytes → x < limitFirst rule → Judges bytes place until rule until
     first-below below h = comes-free below (place + 1) (rule .length - 1) (rw (lt-ltb x (limitFirst rule) h) at (first-within (omega arith))) (omega arith)
+
+  -- so a whole word that keeps its rule breaks it nowhere
+  pub whole-keeps : Below 256 bytes → place + rule .length ≤ until → Keeps rule (wordAt bytes place (rule .length)) → Judges bytes place until rule until
+  whole-keeps below there keeps =
+      let n = rule .length - 1 in
+      let b = getD bytes place 0 in
+      let x = cleared (signFirst rule) b in
+      let rest = wordAt bytes (place + 1) n in
+      let small : rest < 256 ^ n = word-below bytes (place + 1) n below in
+      let e : rule .length ≡ suc n = omega (arith, fast .some) in
+      let s : cleared (rule .sign) (wordAt bytes place (rule .length)) ≡ x * 256 ^ n + rest =
+      ap (λ (k : ℕ). cleared (rule .sign) (wordAt bytes place k)) e ∙ ap (cleared (rule .sign)) (word-front bytes place n (omega (arith, fast .within))) ∙ cleared-first rule (fast .sound) n b rest (omega (arith, fast .some)) small in
+      let most : x ≤ limitFirst rule = le-div-iff-mul-le {k = 256 ^ n} {x = x} {y = rule .greatest} (one-le-pow n 256 (omega arith)) .1 (omega (arith, s, keeps)) in
+      comes-most below (place + 1) n (restOf n (rule .greatest) x) (first-within x refl most) (omega arith) (rest-most n (rule .greatest) x rest small (omega (arith, s, keeps)))
 
   pub tight-start : cleared (signFirst rule) (getD bytes place 0) ≡ limitFirst rule → Tight bytes place rule (place + 1)
   tight-start e =

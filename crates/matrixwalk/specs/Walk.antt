@@ -11,7 +11,8 @@ use Rattle.verdict.specs.declared.Verdict.the-variants.{Complete, Unfinished, R
 use Rattle.rule.specs.declared.rules.Rule.{Rule}
 use Rattle.rule.specs.declared.rules.Ruled.{Ruled}
 use Rattle.rule.specs.declared.rules.Ruled.the-variants.{By, Refused as RuledRefused}
-use Rattle.rule.specs.Rules.{Sound, coefficientRule}
+use Rattle.rule.specs.declared.rules.Form.{Form}
+use Rattle.rule.specs.Rules.{Sound, coefficientRule, ruleOf}
 use Rattle.matrix.specs.declared.Fields.{Fields}
 use Rattle.matrixwalk.specs.declared.words.Passed.{Passed}
 use Rattle.matrixwalk.specs.declared.words.Passed.the-variants.{To, Unfinished as PassedUnfinished, Refused as PassedRefused}
@@ -53,6 +54,15 @@ pub record Judges (bytes : List ℕ) (place until : ℕ) (rule : Rule) (broken :
 
 abbrev pub runOf : Rule → ℕ → Run
 runOf rule count = record { rule = rule; count = count }
+
+-- words of a form and its rule begin at a place, and are looked at up to another
+pub record Checked (bytes : List ℕ) (place until : ℕ) (rule : Rule) (form : Form) : Type 0 where
+  pub sound : Sound rule
+  pub some : 1 ≤ rule .length
+  pub forward : place ≤ until
+  pub within : until ≤ length bytes
+  pub formed : rule ≡ ruleOf form
+  pub as-long : rule .length ≡ form .length
 
 -- up to `until` some words of a rule break it at a byte, or nowhere
 pub record Checks (bytes : List ℕ) (place until : ℕ) (rule : Rule) (broken : ℕ) : Type 0 where

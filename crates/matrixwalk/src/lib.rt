@@ -7,6 +7,7 @@ use crate::words::pass;
 use matrix::Fields;
 use matrixhead::Begun;
 use matrixhead::begin;
+use rule::rules::Form;
 use rule::rules::Rule;
 use rule::rules::Ruled;
 use rule::rules::coefficient_rule;
@@ -49,7 +50,12 @@ fn from_coefficients(bytes: &[u8], f: Fields, words: usize, sent: usize, place: 
     ensures { λ r. ⌜ WalkFrom (now (bytes .entry)) r ⌝ }
 {
     let rule = chosen(coefficient_rule(f.cf, f.clen));
-    let passed = pass(bytes, place, sent, rule, 0);
+    let form = Form {
+        coefficients: true,
+        mapped: f.cf,
+        length: f.clen,
+    };
+    let passed = pass(bytes, place, sent, rule, form, 0);
     match passed {
         Passed::To(length) => Walked::Whole(Found {
             fields: f,
@@ -68,7 +74,12 @@ fn from_deviations(bytes: &[u8], f: Fields, words: usize, sent: usize) -> Walked
     ensures { λ r. ⌜ WalkFrom (now (bytes .entry)) r ⌝ }
 {
     let rule = chosen(deviation_rule(f.sf, f.slen));
-    let passed = pass(bytes, words, f.n, rule, sent * f.clen);
+    let form = Form {
+        coefficients: false,
+        mapped: f.sf,
+        length: f.slen,
+    };
+    let passed = pass(bytes, words, f.n, rule, form, sent * f.clen);
     match passed {
         Passed::To(place) => from_coefficients(bytes, f, words, sent, place),
         Passed::Unfinished(missing) => Walked::Unfinished(missing),

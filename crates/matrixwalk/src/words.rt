@@ -4,11 +4,15 @@ ghost use mathlib.Core.Bool.{true};
 ghost use Prim.Native.Nat.{_+_, _-_, _*_, _/_, _%_, _^_, _≤_, _<_, min};
 ghost use lib.Bits.{bitAnd};
 ghost use lib.ListN.{length as count, getD};
-ghost use Rattle.rule.specs.Rules.{Sound, cleared};
-ghost use Rattle.matrixwalk.specs.Walk.{maskOf, LookedAt, Judges, Checks, SettledUnder, SettledBelow, SettledByTwo, PassedFrom};
+ghost use Rattle.rule.specs.Rules.{Sound, cleared, ruleOf};
+ghost use Rattle.word.specs.Bytes.{wordAt};
+ghost use Rattle.matrixwalk.specs.Walk.{maskOf, LookedAt, Judges, Checked, Checks, SettledUnder, SettledBelow, SettledByTwo, PassedFrom};
+use rule::rules::Form;
 use rule::rules::Rule;
 use verdict::Reason;
 use verdict::Refusal;
+use word::bytes::Read;
+use word::bytes::read_at;
 
 // The place behind some words that keep their rule, or why there is none.
 pub(crate) enum Passed {
@@ -71,12 +75,13 @@ fn tight_word(bytes: &[u8], at: usize, until: usize, rule: Rule) -> usize
     until
 }
 
-// The byte of the word at a place that breaks its rule, or `until` where none before that does.
-fn judge_word(bytes: &[u8], at: usize, until: usize, rule: Rule, mask: usize, first: usize) -> usize
-    requires { ⌜ LookedAt (now bytes) at until rule × (mask ≡ maskOf rule) × (first ≡ rule .greatest / 256 ^ (rule .length - 1)) ⌝ }
+// The byte of the word at a place that breaks its rule, or `until` where none before that does, byte by byte.
+fn judge_bytes(bytes: &[u8], at: usize, until: usize, rule: Rule) -> usize
+    requires { ⌜ LookedAt (now bytes) at until rule ⌝ }
     ensures { λ r. ⌜ Judges (now (bytes .entry)) at until rule r ⌝ }
 {
-    let b = byte(bytes, at) & mask;
+    let first = limit_at(rule.greatest, rule.length - 1);
+    let b = byte(bytes, at) & mask_of(rule);
     if first < b {
         return at;
     }
@@ -86,16 +91,40 @@ fn judge_word(bytes: &[u8], at: usize, until: usize, rule: Rule, mask: usize, fi
     tight_word(bytes, at, until, rule)
 }
 
+// The word of `length` bytes at a place where they are.
+fn word_at(bytes: &[u8], at: usize, length: usize) -> u64
+    requires { ⌜ (length ≤ 8) × (at + length ≤ count (now bytes)) ⌝ }
+    ensures { λ r. ⌜ r ≡ wordAt (now (bytes .entry)) at length ⌝ }
+{
+    let read = read_at(bytes, at, length);
+    match read {
+        Read::Word(word) => word,
+        Read::Unfinished(_) => 0,
+        Read::Refused(_) => 0,
+    }
+}
+
+// The same by the check of its form where the whole word is there; its bytes tell the place of a refusal, or what is cut.
+fn judge_word(bytes: &[u8], at: usize, until: usize, rule: Rule, form: Form) -> usize
+    requires { ⌜ LookedAt (now bytes) at until rule × (rule ≡ ruleOf form) × (rule .length ≡ form .length) ⌝ }
+    ensures { λ r. ⌜ Judges (now (bytes .entry)) at until rule r ⌝ }
+{
+    if form.length <= until - at {
+        if form.admits(word_at(bytes, at, form.length)) {
+            return until;
+        }
+    }
+    judge_bytes(bytes, at, until, rule)
+}
+
 // The byte of the words from a place on that breaks their rule, or `until` where none before that does, word by word.
-fn check_each(bytes: &[u8], place: usize, until: usize, rule: Rule) -> usize
-    requires { ⌜ Sound rule × (1 ≤ rule .length) × (place ≤ until) × (until ≤ count (now bytes)) ⌝ }
+fn check_each(bytes: &[u8], place: usize, until: usize, rule: Rule, form: Form) -> usize
+    requires { ⌜ Checked (now bytes) place until rule form ⌝ }
     ensures { λ r. ⌜ Checks (now (bytes .entry)) place until rule r ⌝ }
 {
-    let mask = mask_of(rule);
-    let first = limit_at(rule.greatest, rule.length - 1);
     let mut at = place;
     while at < until {
-        let broken = judge_word(bytes, at, until, rule, mask, first);
+        let broken = judge_word(bytes, at, until, rule, form);
         if broken < until {
             return broken;
         }
@@ -251,19 +280,26 @@ fn settled(bytes: &[u8], place: usize, until: usize, rule: Rule) -> bool
 }
 
 // The byte of the words from a place on that breaks their rule, or `until` where none before that does.
-fn check(bytes: &[u8], place: usize, until: usize, rule: Rule) -> usize
-    requires { ⌜ Sound rule × (1 ≤ rule .length) × (place ≤ until) × (until ≤ count (now bytes)) ⌝ }
+fn check(bytes: &[u8], place: usize, until: usize, rule: Rule, form: Form) -> usize
+    requires { ⌜ Checked (now bytes) place until rule form ⌝ }
     ensures { λ r. ⌜ Checks (now (bytes .entry)) place until rule r ⌝ }
 {
     if settled(bytes, place, until, rule) {
         return until;
     }
-    check_each(bytes, place, until, rule)
+    check_each(bytes, place, until, rule, form)
 }
 
-// Past so many words of a rule, behind which `after` bytes of other words are to come.
-pub(crate) fn pass(bytes: &[u8], place: usize, words: usize, rule: Rule, after: usize) -> Passed
-    requires { ⌜ Sound rule × (words ≤ 2016) × (place ≤ count (now bytes)) × (after ≤ 65536) ⌝ }
+// Past so many words of a form and its rule, behind which `after` bytes of other words are to come.
+pub(crate) fn pass(
+    bytes: &[u8],
+    place: usize,
+    words: usize,
+    rule: Rule,
+    form: Form,
+    after: usize,
+) -> Passed
+    requires { ⌜ Sound rule × (words ≤ 2016) × (place ≤ count (now bytes)) × (after ≤ 65536) × (rule ≡ ruleOf form) × (rule .length ≡ form .length) ⌝ }
     ensures { λ r. ⌜ PassedFrom (now (bytes .entry)) place words rule after r ⌝ }
 {
     if rule.length == 0 {
@@ -271,7 +307,7 @@ pub(crate) fn pass(bytes: &[u8], place: usize, words: usize, rule: Rule, after: 
     }
     let end = place + words * rule.length;
     let until = lesser(end, bytes.len());
-    let broken = check(bytes, place, until, rule);
+    let broken = check(bytes, place, until, rule, form);
     if broken < until {
         return Passed::Refused(Refusal {
             reason: Reason::ValueRange,

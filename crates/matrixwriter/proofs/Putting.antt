@@ -1,5 +1,5 @@
 -- Words and the bit vector put one after the other. Assumes nothing.
-use Prim.Native.Nat.{ℕ, _+_, _-_, _*_, _≤_, _<_, min}
+use Prim.Native.Nat.{ℕ, _+_, _-_, _*_, _^_, _≤_, _<_, min}
 use mathlib.Core.Path.{_≡_, sym, ap, _∙_, subst}
 use mathlib.Core.List.{List, [], _∷_, _++_}
 use native.Mathlib.Nat.{one-mul, zero-mul, mul-le-mul-right}
@@ -7,20 +7,22 @@ use native.Mathlib.Numerals.{add-one}
 use native.Mathlib.Omega.{arith}
 use borrow.Rule.Slice.PartMut.{putMid, post-is}
 use lib.ListN.{length, take, drop, getD, set, replicate, length-drop}
-use lib.Seq.{take-take, length-take-le}
+use lib.Seq.{take-take, length-take-le, getD-take}
 use Rattle.verdict.specs.declared.Verdict.{Verdict}
 use Rattle.verdict.specs.Writing.{put}
 use Rattle.verdict.proofs.Putting.{put-none, put-put, put-more, put-three, length-put}
 use Rattle.word.specs.Digits.{digits, valueOf}
 use Rattle.word.specs.Many.{bytesFor, WrittenOver}
-use Rattle.word.proofs.Words.{length-bytes, left-whole}
+use Rattle.word.proofs.Words.{length-bytes, left-written}
+use Rattle.word.proofs.Gathered.{all-below}
 use Rattle.matrix.specs.declared.Fields.{Fields}
 use Rattle.matrix.specs.Meaning.{sum}
 use Rattle.matrix.specs.Spelling.{control1, control2, packed, spelled}
 use Rattle.matrix.proofs.BitVector.{length-packed}
 use Rattle.matrix.proofs.Decoding.{length-spelled, length-ones}
 use Rattle.unpack.proofs.Sums.{sum-more, sum-first-most}
-use Rattle.matrixwriter.proofs.Spelled.{spelled-more, all-spelled, full-spelled, packed-more, bitsFrom}
+use Rattle.matrixwriter.specs.Sending.{Sendable}
+use Rattle.matrixwriter.proofs.Spelled.{spelled-none, spelled-more, all-spelled, full-spelled, packed-more, bitsFrom}
 
 -- a word whose mark is 0 has no bytes
 pub unsent-put : (out : List ℕ) (place size mark word : ℕ) → mark ≡ 0 → out ≡ put out place (digits 256 (mark * size) word)
@@ -42,18 +44,19 @@ module _ (out₀ : List ℕ) (place : ℕ) where
 
   module _ (size : ℕ) (words : List ℕ) where
     -- words written over the bytes from the place on
-    pub words-put : (number : ℕ) → size ≤ 8 → number ≤ length words → place + number * size ≤ length out₀ → (answer : Verdict) (left : List ℕ)
+    pub words-put : (number : ℕ) → size ≤ 8 → number ≤ length words → place + number * size ≤ length out₀ → ((i : ℕ) → i < number → getD words i 0 < 256 ^ size) → (answer : Verdict) (left : List ℕ)
         → WrittenOver (take (place + number * size - place) (drop place out₀)) size (take number words) answer left
         → putMid place (place + number * size - place) out₀ left ≡ put out₀ place (spelled size (replicate number 1) words)
     unfolding put
-    words-put number short there room answer left w =
+    words-put number short there room fits answer left w =
         let e : place + number * size - place ≡ number * size = omega arith in
         let part = take (place + number * size - place) (drop place out₀) in
         let given = take number words in
         let as-many : length (take number words) ≡ number = length-take-le number words there in
         let bytes : length (take (place + number * size - place) (drop place out₀)) ≡ number * size = rw e (length-take-le (number * size) (drop place out₀) (rw length-drop (omega arith))) in
         let count : length (bytesFor size (take number words)) ≡ number * size = length-bytes size given ∙ ap (λ (k : ℕ). k * size) as-many in
-        let is = left-whole size (length given) (length part) (bytesFor size given) part answer left w short (bytes ∙ ap (λ (k : ℕ). k * size) (sym as-many)) (count ∙ sym bytes) in
+        let fit = all-below (256 ^ size) given (λ i h. let l : i < number = omega (arith, as-many) in rw (getD-take number words i 0 l) (fits i l)) in
+        let is = left-written size given (length part) (bytesFor size given) part answer left w short (bytes ∙ ap (λ (k : ℕ). k * size) (sym as-many)) fit (count ∙ sym bytes) in
         rw (is, post-is {X = ℕ} place (place + number * size) out₀ (omega arith), ← all-spelled size number words there, count)
 
     module _ (marks : List ℕ) where
@@ -83,6 +86,16 @@ module _ (size number : ℕ) (marks words : List ℕ) (there : number ≤ length
 
   pub full-room : sum (take number marks) * size ≡ number * size
   full-room = sym (length-spelled size (take number marks) words) ∙ ap length full-bytes ∙ length-ones size number words
+
+  -- without bytes there is nothing to put
+  pub full-none : (out : List ℕ) (place : ℕ) → size ≡ 0 → out ≡ put out place (spelled size (take number marks) words)
+  full-none out place e =
+      let none : spelled size (take number marks) words ≡ [] = rw e (spelled-none (take number marks) words) in
+      rw none (sym (put-none out place))
+
+  -- with bytes they fit
+  pub full-fits : Sendable size (take number marks) words → (size ≡ 0 → ⊥) → (i : ℕ) → i < number → getD words i 0 < 256 ^ size
+  full-fits s some i h = s .fitting i (all i h ∙ omega arith)
 
   pub full-put : (out out′ : List ℕ) (place : ℕ) → out′ ≡ put out place (spelled size (replicate number 1) words) → out′ ≡ put out place (spelled size (take number marks) words)
   full-put out out′ place e = rw full-bytes e

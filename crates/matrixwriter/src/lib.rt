@@ -7,7 +7,6 @@ use crate::put::write_given;
 use matrix::Fields;
 use matrixcheck::check::Checked;
 use matrixcheck::check::check;
-use verdict::Refusal;
 use verdict::Verdict;
 
 mod put;
@@ -25,6 +24,6 @@ pub fn write(
     let checked = check(fields, deviations, coefficients, marks);
     match checked {
         Checked::Sent(sent) => write_given(fields, sent, deviations, coefficients, marks, out),
-        Checked::Broken(reason) => Verdict::Refused(Refusal { reason, place: 0 }),
+        Checked::Refused(refusal) => Verdict::Refused(refusal),
     }
 }

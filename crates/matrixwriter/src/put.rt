@@ -103,7 +103,7 @@ fn put_vector(out: &mut [u8], marks: &[u8], pairs: usize, bytes: usize)
 
 // So many words of a length, one after the other.
 fn put_words(out: &mut [u8], place: usize, length: usize, words: &[u64], number: usize)
-    requires { ⌜ (length ≤ 8) × ((number ≤ count (now words)) × (place + number * length ≤ count (now out))) ⌝ }
+    requires { ⌜ (length ≤ 8) × ((number ≤ count (now words)) × ((place + number * length ≤ count (now out)) × ((i : ℕ) → i < number → getD (now words) i 0 < 256 ^ length))) ⌝ }
     ensures { λ _. ⌜ now (out .exit) ≡ put (now (out .entry)) place (spelled length (replicate number 1) (now (words .entry))) ⌝ }
 {
     let end = place + number * length;
@@ -147,6 +147,9 @@ fn put_coefficients(
 {
     if sparse {
         put_sent_words(out, place, length, words, marks, number);
+        return;
+    }
+    if length == 0 {
         return;
     }
     put_words(out, place, length, words, number);

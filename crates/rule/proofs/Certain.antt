@@ -136,7 +136,7 @@ module _ (rule : Rule) where
         (sound .signed)
 
     -- a word whose last k bytes are r, with its sign cleared
-    cleared-first : (k v r : ℕ) → k < rule .length → r < 256 ^ k → cleared (rule .sign) (v * 256 ^ k + r) ≡ cleared (rule .sign / 256 ^ k) v * 256 ^ k + r
+    pub cleared-first : (k v r : ℕ) → k < rule .length → r < 256 ^ k → cleared (rule .sign) (v * 256 ^ k + r) ≡ cleared (rule .sign / 256 ^ k) v * 256 ^ k + r
     cleared-first k v r h l = ap (λ (s : ℕ). cleared s (v * 256 ^ k + r)) (sign-whole k h) ∙ cleared-scaled (rule .sign / 256 ^ k) v (256 ^ k) r l
 
     -- whatever follows a broken beginning, the word stays broken

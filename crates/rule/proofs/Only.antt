@@ -21,6 +21,8 @@ use Rattle.rule.proofs.rules.coefficient_rule.Kinds as coefficient-rule
 use Rattle.rule.proofs.rules.coefficient_rule.Reads as coefficient-rule-reads
 use Rattle.rule.proofs.scaled.scale.Kinds as scale
 use Rattle.rule.proofs.scaled.scale.Reads as scale-reads
+use Rattle.rule.proofs.rules.Form.admits.Kinds as form-admits
+use Rattle.rule.proofs.rules.Form.admits.Reads as form-admits-reads
 
 pub admits-only : OneAnswer admits.ps admits.r admits-reads.Post
 admits-only κs a x y s t p q = p ∙ sym q
@@ -42,6 +44,9 @@ double-deviation-only κs a x y s t p q = p ∙ sym q
 
 pub double-coefficient-only : OneAnswer double-coefficient.ps double-coefficient.r double-coefficient-reads.Post
 double-coefficient-only κs a x y s t p q = p ∙ sym q
+
+pub form-admits-only : OneAnswer form-admits.ps form-admits.r form-admits-reads.Post
+form-admits-only κs a x y s t p q = p ∙ sym q
 
 pub deviation-rule-only : OneAnswer deviation-rule.ps deviation-rule.r deviation-rule-reads.Post
 deviation-rule-only κs a x y s t p q = p ∙ sym q

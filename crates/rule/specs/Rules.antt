@@ -8,6 +8,7 @@ use lib.ListN.{length, take}
 use lib.Dec.{leb, eqb}
 use Rattle.verdict.specs.declared.Reason.the-variants.{ValueLength}
 use Rattle.rule.specs.declared.rules.Rule.{Rule}
+use Rattle.rule.specs.declared.rules.Form.{Form}
 use Rattle.rule.specs.declared.rules.Ruled.{Ruled}
 use Rattle.rule.specs.declared.rules.Ruled.the-variants.{By, Refused}
 use Rattle.word.specs.Digits.{valueOf}
@@ -80,6 +81,10 @@ deviationRule mapped n = cond mapped (mappedRule n) (ieeeRule deviations n)
 
 abbrev pub coefficientRule : Bool → ℕ → Rule
 coefficientRule mapped n = cond mapped (mappedRule n) (ieeeRule coefficients n)
+
+-- the rule of words of a form
+abbrev pub ruleOf : Form → Rule
+ruleOf form = cond (form .coefficients) (coefficientRule (form .mapped) (form .length)) (deviationRule (form .mapped) (form .length))
 
 -- the rule where the format allows the length, else refused 6
 abbrev pub ruledBy : Bool → ℕ → Rule → Ruled

@@ -2,7 +2,7 @@
 ghost use mathlib.Core.Path.{_≡_};
 ghost use mathlib.Core.Bool.{true, false, cond};
 ghost use lib.Dec.{eqb};
-ghost use Rattle.rule.specs.Rules.{admitted, mappedRule, half, single, double, deviations, coefficients, deviationRule, coefficientRule, ruledBy};
+ghost use Rattle.rule.specs.Rules.{admitted, mappedRule, half, single, double, deviations, coefficients, ieeeRule, deviationRule, coefficientRule, ruleOf, ruledBy};
 use verdict::Reason;
 use verdict::Refusal;
 
@@ -203,5 +203,64 @@ pub fn coefficient_rule(mapped: bool, length: usize) -> Ruled
             Single::COEFFICIENTS,
             Double::COEFFICIENTS,
         )
+    }
+}
+
+// The form of some words: coefficients or deviations, mapped or IEEE, and their length.
+pub struct Form {
+    pub coefficients: bool,
+    pub mapped: bool,
+    pub length: usize,
+}
+
+// Whether a word of an IEEE length is a deviation: its format's check.
+fn ieee_deviation(length: usize, word: u64) -> bool
+    ensures { λ r. ⌜ r ≡ admitted (ieeeRule deviations length) word ⌝ }
+{
+    match length {
+        2 => Half::deviation(word),
+        4 => Single::deviation(word),
+        8 => Double::deviation(word),
+        _ => word == 0,
+    }
+}
+
+// Whether a word of an IEEE length is a coefficient: its format's check.
+fn ieee_coefficient(length: usize, word: u64) -> bool
+    ensures { λ r. ⌜ r ≡ admitted (ieeeRule coefficients length) word ⌝ }
+{
+    match length {
+        2 => Half::coefficient(word),
+        4 => Single::coefficient(word),
+        8 => Double::coefficient(word),
+        _ => word == 0,
+    }
+}
+
+// Whether a mapped word of a length is at most half of the words of that length.
+fn mapped_fits(length: usize, word: u64) -> bool
+    ensures { λ r. ⌜ r ≡ admitted (mappedRule length) word ⌝ }
+{
+    if length == 0 {
+        return word == 0;
+    }
+    if 8 < length {
+        return true;
+    }
+    word <= 1 << (8 * length - 1)
+}
+
+impl Form {
+    // Whether a word keeps the rule of its form.
+    pub fn admits(self, word: u64) -> bool
+        ensures { λ r. ⌜ r ≡ admitted (ruleOf self) word ⌝ }
+    {
+        if self.mapped {
+            return mapped_fits(self.length, word);
+        }
+        if self.coefficients {
+            return ieee_coefficient(self.length, word);
+        }
+        ieee_deviation(self.length, word)
     }
 }

@@ -8,8 +8,9 @@ use native.Mathlib.Nat.{pow-zero, pow-suc, mod-lt, mod-eq-of-lt, div-add-mod', d
 use borrow.Author.Tests.{ltb-true, ltb-false, ne-eqb}
 use lib.Dec.{eqb, ltb}
 use lib.Pow.{pow-add, pow-lt, shl-shr}
-use lib.ListN.{length, take, drop, getD, replicate, length-append, length-take}
-use lib.Seq.{take-suc, length-take-le}
+use lib.ListN.{length, take, drop, getD, replicate, length-append, length-take, length-drop}
+use lib.Seq.{take-suc, drop-cons, length-take-le}
+use native.Mathlib.Numerals.{add-one}
 use Rattle.word.specs.Digits.{digits, valueOn, valueOf}
 use Rattle.word.specs.Bytes.{wordAt}
 
@@ -114,6 +115,13 @@ value-take-below b n ds f =
 
 pub word-below : (s : List ℕ) (place n : ℕ) → Below 256 s → wordAt s place n < 256 ^ n
 word-below s place n f = value-take-below 256 n (drop place s) (below-drop place s f)
+
+-- a word is its first byte, and the others behind it
+pub word-front : (s : List ℕ) (place n : ℕ) → place + suc n ≤ length s → wordAt s place (suc n) ≡ getD s place 0 * 256 ^ n + wordAt s (place + 1) n
+unfolding valueOn
+word-front s place n h =
+    let l : length (take n (drop (suc place) s)) ≡ n = length-take-le n (drop (suc place) s) (rw length-drop (omega arith)) in
+    rw (add-one, drop-cons s place 0 (omega arith)) (valueOn-split 256 (0 * 256 + getD s place 0) (take n (drop (suc place) s)) ∙ rw l (omega arith))
 
 -- digits behind digits, with k zeros behind both
 pub value-spread : (b k : ℕ) (xs ys : List ℕ) → valueOf b (xs ++ ys) * b ^ k ≡ valueOf b xs * b ^ (length ys + k) + valueOf b ys * b ^ k

@@ -11,6 +11,8 @@ use Rattle.word.proofs.bytes.read_at.Kinds as read-at
 use Rattle.word.proofs.bytes.read_at.Reads as read-at-reads
 use Rattle.word.proofs.many.read_all.Kinds as read-all
 use Rattle.word.proofs.many.read_all.Reads as read-all-reads
+use Rattle.word.proofs.many.gather.Kinds as gather
+use Rattle.word.proofs.many.gather.Reads as gather-reads
 use Rattle.word.proofs.many.write_all.Kinds as write-all
 use Rattle.word.proofs.many.write_all.Reads as write-all-reads
 
@@ -30,6 +32,9 @@ read-all-only κs a x y s t p q = p .said ∙ sym (q .said)
 pub read-all-leaves : (κs : Lfts 2) (a : Dens κs read-all.ps) (x y : resT read-all.r κs .Denot) (s t : AtExit (endedOf 2 read-all.ps read-all.r) κs)
     → read-all-reads.Post κs a x s → read-all-reads.Post κs a y t → now (s .1 .1 .0) ≡ now (t .1 .1 .0)
 read-all-leaves κs a x y s t p q = p .left ∙ sym (q .left)
+
+pub gather-only : OneAnswer gather.ps gather.r gather-reads.Post
+gather-only κs a x y s t p q = p ∙ sym q
 
 pub write-all-only : OneAnswer write-all.ps write-all.r write-all-reads.Post
 write-all-only κs a x y s t p q = p .said ∙ sym (q .said)

@@ -1,6 +1,6 @@
 -- Laws of words one after the other: those that bytes hold, their bytes, and the loops that read and write them. Assumes nothing.
 use Prim.Native.Nat.{ℕ, zero, suc, _+_, _*_, _/_, _%_, _^_, _≤_, _<_}
-use mathlib.Core.Path.{_≡_, refl, _∙_, sym, ap, ap₂}
+use mathlib.Core.Path.{_≡_, refl, _∙_, sym, ap, ap₂, subst}
 use mathlib.Core.Bool.{Bool, true, false, not, _&&_, and-eq-true-iff}
 use mathlib.Core.List.{List, [], _∷_, _++_, append-nil, append-assoc}
 use native.Mathlib.Numerals.{add-one}
@@ -10,19 +10,22 @@ use borrow.Author.Tests.{eqb-true, eqb-false, eq-eqb, lt-ltb, le-ltb, ltb-false,
 use lib.Dec.{eqb}
 use lib.ListN.{length, take, drop, getD, set, length-append, length-drop, drop-of-length-le, take-append-drop}
 use lib.Seq.{take-at, drop-at, take-all, take-suc, take-add, take-append-le, drop-append-le, drop-drop, length-take-le}
-use Rattle.verdict.specs.declared.Judged.the-variants.{Kept, Broken}
+use Rattle.verdict.specs.declared.Judged.{Judged}
+use Rattle.verdict.specs.declared.Judged.the-variants.{Kept as JudgedKept, Broken}
 use Rattle.verdict.specs.declared.Reason.{Reason}
 use Rattle.verdict.specs.declared.Reason.the-variants.{ValueLength, Disagree}
 use Rattle.verdict.specs.Judgement.{judgement}
+use Rattle.verdict.specs.Rows.{Row}
 use Rattle.verdict.specs.declared.Verdict.{Verdict}
 use Rattle.verdict.specs.declared.Verdict.the-variants.{Complete}
 use Rattle.verdict.specs.Writing.{put, refusing, WrittenBy}
 use Rattle.verdict.proofs.Cases.{either}
-use Rattle.verdict.proofs.Deciding.{judgement-kept, judgement-blamed, decided-kept, written-off}
+use Rattle.verdict.proofs.Judging.{Kept}
+use Rattle.verdict.proofs.Deciding.{judgement-kept, judgement-on, judgement-off, judgement-blamed, kept-judgement, kept-both, both-kept, decided-kept, written-off}
 use Rattle.verdict.proofs.Putting.{put-none, put-first, put-more, put-put, length-put}
 use Rattle.word.specs.Digits.{digits, valueOf}
 use Rattle.word.specs.Bytes.{wordAt}
-use Rattle.word.specs.Many.{wordsIn, bytesFor, manyRows}
+use Rattle.word.specs.Many.{wordsIn, bytesFor, allBelow, manyRows, tooLongRows, writeRows}
 use Rattle.word.proofs.Digits.{Below, below-drop, length-digits, value-digits, digits-take}
 
 pub length-words : (n words : ℕ) (bytes : List ℕ) → length (wordsIn n words bytes) ≡ words
@@ -204,6 +207,18 @@ module _ (out₀ words : List ℕ) (n : ℕ) where
 
 -- ---- what reading and writing many answers: a refusal leaves the list, and the count of its entries comes with all of them
 
+module _ (rows : List Row) (list out : List ℕ) where
+  pub many-refused : (reason : Reason) → Broken reason ≡ judgement rows → WrittenBy rows list out 0 (refusing reason) out
+  many-refused reason e = subst (λ (rs : List Row). WrittenBy rs list out 0 (refusing reason) out) (append-nil rows) (written-off rows [] list out 0 reason (judgement-blamed rows reason (sym e)))
+
+  pub whole-left : (out′ : List ℕ) → JudgedKept ≡ judgement rows → length list ≡ length out → out′ ≡ list → WrittenBy rows list out 0 (Complete (length out′)) out′
+  whole-left out′ k l p =
+      let e = decided-kept rows (Complete (length list)) (judgement-kept rows (sym k)) in
+      record { said = rw e (ap (λ (bs : List ℕ). Complete (length bs)) p); left = rw e (p ∙ sym (put-whole out list l)) }
+
+  kept-left : Kept rows → (answer : Verdict) (out′ : List ℕ) → WrittenBy rows list out 0 answer out′ → length list ≡ length out → out′ ≡ list
+  kept-left k answer out′ w l = w .left ∙ rw (decided-kept rows (Complete (length list)) k) (put-whole out list l)
+
 module _ (n words bytes : ℕ) where
   pub judged-long : 8 < n → Broken ValueLength ≡ judgement (manyRows n words bytes)
   judged-long h = rw (lt-ltb 8 n h)
@@ -212,23 +227,32 @@ module _ (n words bytes : ℕ) where
     pub judged-apart : not held ≡ true → Broken Disagree ≡ judgement (manyRows n words bytes)
     judged-apart e = rw (le-ltb 8 n short, ← is, e)
 
-    pub judged-kept : not held ≡ false → Kept ≡ judgement (manyRows n words bytes)
+    pub judged-kept : not held ≡ false → JudgedKept ≡ judgement (manyRows n words bytes)
     judged-kept e = rw (le-ltb 8 n short, ← is, e)
 
-  pub kept-whole : Kept ≡ judgement (manyRows n words bytes) → (n ≤ 8) × (bytes ≡ words * n)
+  pub kept-whole : JudgedKept ≡ judgement (manyRows n words bytes) → (n ≤ 8) × (bytes ≡ words * n)
   kept-whole e = let k = judgement-kept (manyRows n words bytes) (sym e) in (ltb-false 8 n (k .0), eqb-true bytes (words * n) (not-false _ (k .1 .0)))
 
-  module _ (list out : List ℕ) where
-    pub many-refused : (reason : Reason) → Broken reason ≡ judgement (manyRows n words bytes) → WrittenBy (manyRows n words bytes) list out 0 (refusing reason) out
-    many-refused reason e = written-off (manyRows n words bytes) [] list out 0 reason (judgement-blamed (manyRows n words bytes) reason (sym e))
+  pub whole-kept : n ≤ 8 → bytes ≡ words * n → Kept (manyRows n words bytes)
+  whole-kept short held = judgement-kept (manyRows n words bytes) (sym (judged-kept short true (sym (eq-eqb bytes (words * n) held)) refl))
 
-    pub whole-left : (out′ : List ℕ) → Kept ≡ judgement (manyRows n words bytes) → length list ≡ length out → out′ ≡ list → WrittenBy (manyRows n words bytes) list out 0 (Complete (length out′)) out′
-    whole-left out′ k l p =
-        let e = decided-kept (manyRows n words bytes) (Complete (length list)) (judgement-kept (manyRows n words bytes) (sym k)) in
-        record { said = rw e (ap (λ (bs : List ℕ). Complete (length bs)) p); left = rw e (p ∙ sym (put-whole out list l)) }
+  -- where the bytes are as many as the words have, the whole list is left
+  pub left-whole : (list out : List ℕ) (answer : Verdict) (out′ : List ℕ) → WrittenBy (manyRows n words bytes) list out 0 answer out′ → n ≤ 8 → bytes ≡ words * n → length list ≡ length out → out′ ≡ list
+  left-whole list out answer out′ w short held l = kept-left (manyRows n words bytes) list out (whole-kept short held) answer out′ w l
 
-    -- where the bytes are as many as the words have, the whole list is left
-    pub left-whole : (answer : Verdict) (out′ : List ℕ) → WrittenBy (manyRows n words bytes) list out 0 answer out′ → n ≤ 8 → bytes ≡ words * n → length list ≡ length out → out′ ≡ list
-    left-whole answer out′ w short held l =
-        let k = judgement-kept (manyRows n words bytes) (sym (judged-kept short true (sym (eq-eqb bytes (words * n) held)) refl)) in
-        w .left ∙ rw (decided-kept (manyRows n words bytes) (Complete (length list)) k) (put-whole out list l)
+-- words that fit are written too
+module _ (n : ℕ) (words : List ℕ) (bytes : ℕ) where
+  pub judged-words : (judged : Judged) → judged ≡ judgement (manyRows n (length words) bytes) → judged ≡ JudgedKept → judgement (tooLongRows n words) ≡ judgement (writeRows n words bytes)
+  judged-words judged e k = sym (judgement-on (manyRows n (length words) bytes) (tooLongRows n words) (sym e ∙ k))
+
+  pub judged-off : (reason : Reason) → Broken reason ≡ judgement (manyRows n (length words) bytes) → Broken reason ≡ judgement (writeRows n words bytes)
+  judged-off reason e = sym (judgement-off (manyRows n (length words) bytes) (tooLongRows n words) reason (sym e))
+
+  pub fit-whole : JudgedKept ≡ judgement (writeRows n words bytes) → (n ≤ 8) × (bytes ≡ length words * n)
+  fit-whole e =
+      let k = both-kept (manyRows n (length words) bytes) (tooLongRows n words) (judgement-kept (writeRows n words bytes) (sym e)) .0 in
+      kept-whole n (length words) bytes (sym (kept-judgement (manyRows n (length words) bytes) k))
+
+  pub left-written : (list out : List ℕ) (answer : Verdict) (out′ : List ℕ) → WrittenBy (writeRows n words bytes) list out 0 answer out′ → n ≤ 8 → bytes ≡ length words * n → allBelow (256 ^ n) words ≡ true → length list ≡ length out → out′ ≡ list
+  left-written list out answer out′ w short held fit l =
+      kept-left (writeRows n words bytes) list out (kept-both (manyRows n (length words) bytes) (tooLongRows n words) (whole-kept n (length words) bytes short held) (rw fit, tt)) answer out′ w l

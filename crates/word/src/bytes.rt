@@ -92,7 +92,7 @@ pub fn read_at(bytes: &[u8], place: usize, length: usize) -> Read
 }
 
 // Whether a word fits in so many bytes.
-fn fits(word: u64, length: usize) -> bool
+pub(crate) fn fits(word: u64, length: usize) -> bool
     requires { ⌜ length ≤ 8 ⌝ }
     ensures { λ r. ⌜ r ≡ ltb word (256 ^ length) ⌝ }
 {

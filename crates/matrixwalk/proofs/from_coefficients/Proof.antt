@@ -3,7 +3,8 @@ use mathlib.Core.Path.{_≡_, _∙_, sym, ap, subst}
 use native.Mathlib.Omega.{arith}
 use denote.Ref.{now}
 use Rattle.rule.specs.Rules.{Sound, coefficientRule}
-use Rattle.rule.proofs.Certain.{coefficient-sound}
+use Rattle.rule.specs.declared.rules.Rule.{Rule}
+use Rattle.rule.proofs.Certain.{coefficient-sound, coefficient-length}
 use Rattle.matrixwalk.specs.Walk.{ruleIn, PassedFrom}
 use Rattle.matrixwalk.proofs.Walking.{chosen-coefficients, coefficients-passed, coefficients-end}
 use borrow.Author.Needs.{needs}
@@ -22,7 +23,7 @@ chosen-requires c κs = search needs
 
 pass-requires : tie.Need-pass-requires
 pass-requires c κs = let d = c .before .before .before .pre in let f = c .before .before .before .args .f in
-    (subst Sound (sym (rule-is c)) (coefficient-sound (f .cf) (f .clen) (d .begun .lawful .first .coefficient-length)), d .begun .counted, d .within, omega arith)
+    (subst Sound (sym (rule-is c)) (coefficient-sound (f .cf) (f .clen) (d .begun .lawful .first .coefficient-length)), d .begun .counted, d .within, omega arith, rule-is c, ap (λ (r : Rule). r .length) (rule-is c) ∙ coefficient-length (f .cf) (f .clen) (d .begun .lawful .first .coefficient-length))
 
 enum-known-passed : tie.Need-enum-known-passed
 enum-known-passed c = search needs

@@ -4,7 +4,8 @@ use mathlib.Core.Path.{_≡_, _∙_, sym, ap, subst}
 use native.Mathlib.Omega.{arith}
 use denote.Ref.{now}
 use Rattle.rule.specs.Rules.{Sound, deviationRule}
-use Rattle.rule.proofs.Certain.{deviation-sound}
+use Rattle.rule.specs.declared.rules.Rule.{Rule}
+use Rattle.rule.proofs.Certain.{deviation-sound, deviation-length}
 use Rattle.matrixwalk.specs.Walk.{ruleIn, PassedFrom}
 use Rattle.matrixwalk.proofs.Walking.{chosen-deviations, deviations-passed, deviations-end}
 use Rattle.matrix.proofs.Counts.{coefficients-most}
@@ -28,7 +29,7 @@ mul-pass c = let s = c .before .before .before .before in omega (arith, coeffici
 pass-requires : tie.Need-pass-requires
 pass-requires c κs =
     let s = c .before .before .before .before in let f = s .args .f in
-    (subst Sound (sym (rule-is (c .before))) (deviation-sound (f .sf) (f .slen) (s .pre .lawful .deviation-length)), omega (arith, s .pre .lawful .first .size-most), s .pre .within, omega (arith, coefficients-most f (s .args .sent) (s .pre .lawful .first) (s .pre .counted)))
+    (subst Sound (sym (rule-is (c .before))) (deviation-sound (f .sf) (f .slen) (s .pre .lawful .deviation-length)), omega (arith, s .pre .lawful .first .size-most), s .pre .within, omega (arith, coefficients-most f (s .args .sent) (s .pre .lawful .first) (s .pre .counted)), rule-is (c .before), ap (λ (r : Rule). r .length) (rule-is (c .before)) ∙ deviation-length (f .sf) (f .slen) (s .pre .lawful .deviation-length))
 
 enum-known-passed : tie.Need-enum-known-passed
 enum-known-passed c = search needs

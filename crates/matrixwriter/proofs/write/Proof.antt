@@ -1,18 +1,20 @@
 -- `matrixwriter::write` meets its contract: what is checked is written, and a broken rule leaves the bytes. Assumes nothing.
 use Prim.Native.Nat.{ℕ}
-use mathlib.Core.Path.{_≡_, sym, _∙_}
-use mathlib.Core.List.{List}
+use mathlib.Core.Path.{_≡_, sym, subst, _∙_}
+use mathlib.Core.List.{List, _++_}
 use denote.Ref.{now}
 use lib.ListN.{length, take}
+use Rattle.verdict.specs.declared.Refusal.{Refusal}
+use Rattle.verdict.specs.declared.Verdict.the-variants.{Refused}
 use Rattle.verdict.specs.Rows.{Row}
-use Rattle.verdict.specs.Writing.{roomRows}
+use Rattle.verdict.specs.Writing.{roomRows, WrittenBy}
 use Rattle.verdict.proofs.Judging.{Kept}
 use Rattle.verdict.proofs.Deciding.{written-on, written-off}
 use Rattle.matrix.specs.Meaning.{pairs, sum}
 use Rattle.matrix.specs.Spelling.{bytesOf}
 use Rattle.matrixcheck.specs.Given.{meaningGiven, givenRows}
 use Rattle.matrixcheck.proofs.Given.{given-lawful}
-use Rattle.matrixcheck.proofs.Checking.{checked-kept, checked-blamed}
+use Rattle.matrixcheck.proofs.Checking.{checked-kept, checked-refused}
 use borrow.Author.Needs.{needs}
 use Rattle.matrixwriter.proofs.write.Statement.{statement}
 use Rattle.matrixwriter.proofs.write.Tie as tie
@@ -72,8 +74,10 @@ returns-2 c =
     let d = c .before in
     let k = d .before .before in
     let s = start k in
-    let reason = d .checked2 .given .0 .0 in
-    written-off (rows s) (room s) (bytes s) (now (s .args .out)) 0 reason (checked-blamed (rows s) (sent s) reason (sym (k .check .ensures) ∙ d .checked2 .given .1))
+    let out = now (s .args .out) in
+    let refusal = d .checked2 .given .0 .0 in
+    let broken = checked-refused (rows s) (sent s) refusal (sym (k .check .ensures) ∙ d .checked2 .given .1) in
+    subst (λ (r : Refusal). WrittenBy (rows s ++ room s) (bytes s) out 0 (Refused r) out) (sym (broken .2)) (written-off (rows s) (room s) (bytes s) out 0 (broken .0) (broken .1))
 
 pub write-spec : {M : Type 1} → statement M
 write-spec = tie.close (tie.spec check-requires enum-known-checked write-given-requires enum-known-checked-2 same-length returns returns-2)

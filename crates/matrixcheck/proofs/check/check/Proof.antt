@@ -1,10 +1,13 @@
 -- `matrixcheck::check::check` meets its contract: the fields, then the lists. Assumes nothing.
-use mathlib.Core.Path.{sym, _∙_}
+use mathlib.Core.Path.{ap, sym, _∙_}
 use mathlib.Core.List.{_++_}
 use denote.Ref.{now}
 use lib.ListN.{take}
 use Rattle.verdict.proofs.Judging.{Kept}
 use Rattle.verdict.proofs.Deciding.{judgement-kept, judgement-blamed}
+use Rattle.matrixhead.proofs.Judging.{allowed-kept, allowed-broken}
+use Rattle.verdict.specs.Judgement.{judgement}
+use Rattle.matrixcheck.specs.declared.check.Checked.the-variants.{Refused}
 use Rattle.matrix.specs.Meaning.{pairs, sum}
 use Rattle.matrix.specs.Table.{fieldRows}
 use Rattle.matrix.proofs.FieldRules.{fields-lawful}
@@ -22,13 +25,13 @@ enum-told c = search needs
 
 -- the fields keep their rules
 kept : (c : tie.After-enum-told) → Kept (fieldRows (c .before .before .before .before .before .before .args .f))
-kept c = let j = c .before .before in judgement-kept (fieldRows (j .before .before .before .before .args .f)) (sym (j .judge-fields .ensures) ∙ c .enum-told .given .1)
+kept c = let j = c .before .before in let rows = fieldRows (j .before .before .before .before .args .f) in judgement-kept rows (allowed-kept (judgement rows) (sym (j .judge-fields .ensures) ∙ c .enum-told .given .1))
 
 check-lists-requires : tie.Need-check-lists-requires
 check-lists-requires c κs = fields-lawful (c .before .before .before .before .before .before .args .f) (kept c)
 
-enum-known-judged : tie.Need-enum-known-judged
-enum-known-judged c = search needs
+enum-known-allowed : tie.Need-enum-known-allowed
+enum-known-allowed c = search needs
 
 returns : tie.Need-returns
 returns c =
@@ -45,10 +48,13 @@ returns-2 c =
     let j = b .before .before in
     let a = j .before .before .before .before .args in
     let marks = now (a .marks) in
-    let reason = b .judged .given .0 .0 in
-    sym
-    (checked-off (fieldRows (a .f)) (disagreeRows (a .f) (now (a .deviations)) (now (a .coefficients)) marks ++ valueRows (a .f) (now (a .deviations)) (now (a .coefficients)) marks) (sum (take (pairs (a .f .n)) marks)) reason
-    (judgement-blamed (fieldRows (a .f)) reason (sym (j .judge-fields .ensures) ∙ b .judged .given .1)))
+    let rows = fieldRows (a .f) in
+    let broken = allowed-broken (judgement rows) (b .allowed .given .0 .0) (sym (j .judge-fields .ensures) ∙ b .allowed .given .1) in
+    let reason = broken .0 in
+    ap Refused (broken .2)
+    ∙ sym
+    (checked-off rows (disagreeRows (a .f) (now (a .deviations)) (now (a .coefficients)) marks ++ valueRows (a .f) (now (a .deviations)) (now (a .coefficients)) marks) (sum (take (pairs (a .f .n)) marks)) reason
+    (judgement-blamed rows reason (broken .1)))
 
 pub check-spec : {M : Type 1} → statement M
-check-spec = tie.close (tie.spec judge-fields-requires enum-told check-lists-requires enum-known-judged returns returns-2)
+check-spec = tie.close (tie.spec judge-fields-requires enum-told check-lists-requires enum-known-allowed returns returns-2)

@@ -16,22 +16,36 @@ use Rattle.matrixcheck.proofs.check.check_lists.Tie as tie
 pairs-of-requires : tie.Need-pairs-of-requires
 pairs-of-requires c κs = search needs
 
+refuse-requires : tie.Need-refuse-requires
+refuse-requires c κs = search needs
+
+refuse-requires-2 : tie.Need-refuse-requires-2
+refuse-requires-2 c κs = search needs
+
+refuse-requires-3 : tie.Need-refuse-requires-3
+refuse-requires-3 c κs = search needs
+
+refuse-requires-4 : tie.Need-refuse-requires-4
+refuse-requires-4 c κs = search needs
+
 returns : tie.Need-returns
 returns c =
-    let a = c .before .before .before .before .before .before .args in
-    few-deviations (a .f) (now (a .deviations)) (now (a .coefficients)) (now (a .marks)) (c .if1 .taken)
+    let a = c .before .before .before .before .before .before .before .args in
+    c .refuse .ensures ∙ few-deviations (a .f) (now (a .deviations)) (now (a .coefficients)) (now (a .marks)) (c .before .if1 .taken)
 
 returns-2 : tie.Need-returns-2
 returns-2 c =
-    let p = c .before .before .before in
+    let t = c .before in
+    let p = t .before .before .before in
     let a = p .before .before .before .before .args in
-    few-coefficients (a .f) (now (a .deviations)) (now (a .coefficients)) (now (a .marks)) (c .before .if1 .left) (omega (arith, c .if2 .taken, p .pairs-of .ensures))
+    c .refuse2 .ensures ∙ few-coefficients (a .f) (now (a .deviations)) (now (a .coefficients)) (now (a .marks)) (t .before .if1 .left) (omega (arith, t .if2 .taken, p .pairs-of .ensures))
 
 returns-3 : tie.Need-returns-3
 returns-3 c =
-    let p = c .before .before .before .before in
+    let t = c .before in
+    let p = t .before .before .before .before in
     let a = p .before .before .before .before .args in
-    few-marks (a .f) (now (a .deviations)) (now (a .coefficients)) (now (a .marks)) (c .before .before .if1 .left) (omega (arith, c .before .if2 .left, p .pairs-of .ensures)) (omega (arith, c .if3 .taken, p .pairs-of .ensures))
+    c .refuse3 .ensures ∙ few-marks (a .f) (now (a .deviations)) (now (a .coefficients)) (now (a .marks)) (t .before .before .if1 .left) (omega (arith, t .before .if2 .left, p .pairs-of .ensures)) (omega (arith, t .if3 .taken, p .pairs-of .ensures))
 
 abbrev start : tie.Else3 → tie.Start
 start c = c .before .before .before .before .before .before .before .before
@@ -78,9 +92,9 @@ returns-4 c =
 
 returns-5 : tie.Need-returns-5
 returns-5 c =
-    let o = c .before .before in
+    let o = c .before .before .before in
     let a = start (o .before) .args in
-    marks-broken (a .f) (now (a .deviations)) (now (a .coefficients)) (now (a .marks)) (enough (o .before)) (unfit-marked (a .f) (take (pairs (a .f .n)) (now (a .marks))) (sym (marked o) ∙ c .enum-told .given .1))
+    c .refuse4 .ensures ∙ marks-broken (a .f) (now (a .deviations)) (now (a .coefficients)) (now (a .marks)) (enough (o .before)) (unfit-marked (a .f) (take (pairs (a .f .n)) (now (a .marks))) (sym (marked o) ∙ c .before .enum-told .given .1))
 
 pub check-lists-spec : {M : Type 1} → statement M
-check-lists-spec = tie.close (tie.spec pairs-of-requires returns returns-2 returns-3 marks-of-requires enum-known-marked check-values-requires enum-told returns-4 returns-5)
+check-lists-spec = tie.close (tie.spec pairs-of-requires refuse-requires returns refuse-requires-2 returns-2 refuse-requires-3 returns-3 marks-of-requires enum-known-marked check-values-requires enum-told refuse-requires-4 returns-4 returns-5)

@@ -7,6 +7,7 @@ use borrow.Author.Tests.{not-true, not-false}
 use denote.Ref.{now}
 use lib.ListN.{length as count, take, getD}
 use lib.Seq.{getD-take, length-take-le}
+use Rattle.rule.specs.Rules.{ruleOf}
 use Rattle.matrixcheck.specs.Given.{sentFit}
 use Rattle.matrixcheck.proofs.Fitting.{sent-fit-next, sent-broken}
 use borrow.Author.Needs.{needs}
@@ -14,10 +15,10 @@ use Rattle.matrixcheck.proofs.check.sent_fit.Statement.{statement}
 use Rattle.matrixcheck.proofs.check.sent_fit.Tie as tie
 
 abbrev Inv-loop : tie.InvT-loop
-Inv-loop rule words marks count i₀ i = (i ≤ count) × (true ≡ sentFit rule (take i marks) words)
+Inv-loop form words marks count i₀ i = (i ≤ count) × (true ≡ sentFit (ruleOf form) (take i marks) words)
 
 abbrev μ-loop : tie.MeasureT-loop
-μ-loop rule words marks count i₀ i = count - i
+μ-loop form words marks count i₀ i = count - i
 
 loop-holds : tie.Need-loop-holds Inv-loop μ-loop
 unfolding sentFit
@@ -41,7 +42,7 @@ returns c = let l = c .before .before .before .before .before in
     let marks = take (a .count) (now (a .marks)) in
     let here : getD (take (a .count) (now (a .marks))) (l .loop .i) 0 ≡ getD (now (a .marks)) (l .loop .i) 0 = getD-take (a .count) (now (a .marks)) (l .loop .i) 0 (c .before .before .before .before .loop-test .taken) in
     let few : count marks ≡ a .count = length-take-le (a .count) (now (a .marks)) (l .before .before .before .pre .1) in
-    sent-broken (a .rule) marks (now (a .words)) (l .loop .i) (omega (arith, few, c .before .before .before .before .loop-test .taken)) (rw (here, ← c .before .admits .ensures) (not-true _ (c .if1 .taken)))
+    sent-broken (ruleOf (a .form)) marks (now (a .words)) (l .loop .i) (omega (arith, few, c .before .before .before .before .loop-test .taken)) (rw (here, ← c .before .admits .ensures) (not-true _ (c .if1 .taken)))
 
 add-i : tie.Need-add-i Inv-loop μ-loop
 add-i c = search needs
@@ -52,7 +53,7 @@ loop-less c = search needs
 loop-again : tie.Need-loop-again Inv-loop μ-loop
 loop-again c = let l = c .before .before .before .before .before in
     let a = l .before .before .before .args in
-    (omega arith, sent-fit-next (a .rule) (now (a .marks)) (now (a .words)) (l .loop .i) (omega arith) (l .loop .inv .1) (rw (← c .before .admits .ensures) (not-false _ (c .if1 .left))))
+    (omega arith, sent-fit-next (ruleOf (a .form)) (now (a .marks)) (now (a .words)) (l .loop .i) (omega arith) (l .loop .inv .1) (rw (← c .before .admits .ensures) (not-false _ (c .if1 .left))))
 
 returns-2 : tie.Need-returns-2 Inv-loop μ-loop
 returns-2 c = let l = c .before in

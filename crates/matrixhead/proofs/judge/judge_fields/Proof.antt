@@ -1,48 +1,24 @@
--- `matrixhead::judge::judge_fields` meets its contract: the size, then the coefficients' rules, then the deviations'. Assumes nothing.
-use mathlib.Core.Path.{_∙_, sym}
-use native.Mathlib.Omega.{arith}
+-- `matrixhead::judge::judge_fields` meets its contract: a broken rule is refused at place 0. Assumes nothing.
+use mathlib.Core.Path.{ap, sym, _∙_}
 use borrow.Author.Needs.{needs}
-use borrow.Author.Tests.{eq-eqb, ne-eqb, lt-ltb, le-ltb}
-use Rattle.matrix.specs.Table.{coefficientRows, deviationRows}
-use Rattle.verdict.proofs.Deciding.{judgement-on, judgement-off}
+use Rattle.matrixhead.specs.Judging.{allowedBy}
 use Rattle.matrixhead.proofs.judge.judge_fields.Statement.{statement}
 use Rattle.matrixhead.proofs.judge.judge_fields.Tie as tie
 
-returns : tie.Need-returns
-returns c = let n = c .before .before .args .f .n in simp (eq-eqb n 0 (omega arith))
-
-returns-2 : tie.Need-returns-2
-returns-2 c = let n = c .before .before .before .before .args .f .n in simp (ne-eqb n 0 (λ z. omega arith), lt-ltb 64 n (omega arith))
-
-judge-coefficients-requires : tie.Need-judge-coefficients-requires
-judge-coefficients-requires c κs = search needs
+judge-given-requires : tie.Need-judge-given-requires
+judge-given-requires c κs = search needs
 
 enum-told : tie.Need-enum-told
 enum-told c = search needs
 
-judge-deviations-requires : tie.Need-judge-deviations-requires
-judge-deviations-requires c κs = search needs
-
 enum-known-judged : tie.Need-enum-known-judged
 enum-known-judged c = search needs
 
-returns-3 : tie.Need-returns-3
-returns-3 c =
-    let j = c .before .before .before in
-    let s = j .before .before in
-    let f = s .before .before .before .args .f in
-    rw (ne-eqb (f .n) 0 (λ z. omega arith), le-ltb 64 (f .n) (omega arith))
-    (c .judge-deviations .ensures ∙ sym (judgement-on (coefficientRows f) (deviationRows f) (sym (j .judge-coefficients .ensures) ∙ c .before .enum-told .given .1)))
+returns : tie.Need-returns
+returns c = ap allowedBy (sym (c .enum-told .given .1) ∙ c .before .before .judge-given .ensures)
 
-returns-4 : tie.Need-returns-4
-returns-4 c =
-    let j = c .before .before .before in
-    let s = j .before .before in
-    let f = s .before .before .before .args .f in
-    rw (ne-eqb (f .n) 0 (λ z. omega arith), le-ltb 64 (f .n) (omega arith))
-    (sym (judgement-off (coefficientRows f) (deviationRows f) (c .before .judged .given .0 .0) (sym (j .judge-coefficients .ensures) ∙ c .before .judged .given .1)))
+returns-2 : tie.Need-returns-2
+returns-2 c = ap allowedBy (sym (c .before .judged .given .1) ∙ c .before .before .before .judge-given .ensures)
 
 pub judge-fields-spec : {M : Type 1} → statement M
-judge-fields-spec =
-    tie.close
-    (tie.spec returns returns-2 judge-coefficients-requires enum-told judge-deviations-requires enum-known-judged returns-3 returns-4)
+judge-fields-spec = tie.close (tie.spec judge-given-requires enum-told enum-known-judged returns returns-2)

@@ -35,11 +35,11 @@ returns-2 c =
     let a = k .before .before .before .before .before .before .args in
     pass-over (a .bytes .now) (a .place) (a .words) (a .rule) (a .after) (k .before .lesser .result) (k .check .result) (k .before .lesser .ensures) (k .check .ensures) (c .if2 .taken)
 
-sub-t13 : tie.Need-sub-t13
-sub-t13 c = search needs
+sub-t14 : tie.Need-sub-t14
+sub-t14 c = search needs
 
-add-t14 : tie.Need-add-t14
-add-t14 c = omega (arith, few (c .before .before .before .before .before .before .before .before))
+add-t15 : tie.Need-add-t15
+add-t15 c = omega (arith, few (c .before .before .before .before .before .before .before .before))
 
 returns-3 : tie.Need-returns-3
 returns-3 c =
@@ -63,7 +63,7 @@ pass-spec =
     lesser-requires
     check-requires
     returns-2
-    sub-t13
-    add-t14
+    sub-t14
+    add-t15
     returns-3
     returns-4)

@@ -1,8 +1,9 @@
 -- `matrixwriter::put::put_deviations` meets its contract: without bytes there are none. Assumes nothing.
-use Prim.Native.Nat.{_<_}
+use Prim.Native.Nat.{ℕ, _<_}
 use mathlib.Core.Path.{sym, _∙_}
 use native.Mathlib.Omega.{arith}
 use denote.Ref.{now}
+use lib.ListN.{getD-replicate}
 use Rattle.verdict.proofs.Putting.{put-none}
 use Rattle.matrixwriter.proofs.Spelled.{deviations-none, deviations-all}
 use borrow.Author.Needs.{needs}
@@ -18,7 +19,8 @@ put-words-requires : tie.Need-put-words-requires
 put-words-requires c κs =
     let s = c .before .before .before .before .before in
     let some : 0 < s .args .f .slen = omega (arith, c .before .if1 .left) in
-    (s .pre .0 .sendable some .short, (s .pre .0 .enough, s .pre .1))
+    let k = s .pre .0 .sendable some in
+    (k .short, (s .pre .0 .enough, (s .pre .1, λ i h. k .fitting i (getD-replicate {A = ℕ} (s .args .f .n) i 1 0 h))))
 
 same-length : tie.Need-same-length
 same-length c = search needs

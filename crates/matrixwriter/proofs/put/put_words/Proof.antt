@@ -35,7 +35,7 @@ returns : tie.Need-returns
 returns c = let s = c .before .before .before .before .before .before .before in
     let a = s .args in
     let w = c .before .before .write-all in
-    words-put (now (a .out)) (a .place) (a .length) (now (a .words)) (a .number) (s .pre .0) (s .pre .1 .0) (s .pre .1 .1) (w .result) (w .last .0) (w .ensures)
+    words-put (now (a .out)) (a .place) (a .length) (now (a .words)) (a .number) (s .pre .0) (s .pre .1 .0) (s .pre .1 .1 .0) (s .pre .1 .1 .1) (w .result) (w .last .0) (w .ensures)
 
 pub put-words-spec : {M : Type 1} → statement M
 put-words-spec =

@@ -36,13 +36,13 @@ returns c =
     let t = w .before .before in
     let a = start (t .before .before) .args in
     let k = kept t in
-    whole-left (a .length) (count (a .out .now)) (count (a .bytes .now)) (wordsIn (a .length) (count (a .out .now)) (a .bytes .now)) (a .out .now) (w .read-by-length .last .1 .1 .0) k (length-words (a .length) (count (a .out .now)) (a .bytes .now)) (w .read-by-length .ensures)
+    whole-left (manyRows (a .length) (count (a .out .now)) (count (a .bytes .now))) (wordsIn (a .length) (count (a .out .now)) (a .bytes .now)) (a .out .now) (w .read-by-length .last .1 .1 .0) k (length-words (a .length) (count (a .out .now)) (a .bytes .now)) (w .read-by-length .ensures)
 
 returns-2 : tie.Need-returns-2
 returns-2 c =
     let d = c .before .before .before in
     let a = start d .args in
-    many-refused (a .length) (count (a .out .now)) (count (a .bytes .now)) (wordsIn (a .length) (count (a .out .now)) (a .bytes .now)) (a .out .now) (c .before .judged .given .0 .0) (sym (c .before .judged .given .1) ∙ d .judge .ensures)
+    many-refused (manyRows (a .length) (count (a .out .now)) (count (a .bytes .now))) (wordsIn (a .length) (count (a .out .now)) (a .bytes .now)) (a .out .now) (c .before .judged .given .0 .0) (sym (c .before .judged .given .1) ∙ d .judge .ensures)
 
 pub read-all-spec : {M : Type 1} → statement M
 read-all-spec =

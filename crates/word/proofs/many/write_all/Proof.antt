@@ -3,26 +3,26 @@ use mathlib.Core.Path.{_≡_, _∙_, sym}
 use lib.ListN.{length as count}
 use Rattle.verdict.specs.declared.Judged.the-variants.{Kept}
 use Rattle.verdict.specs.Judgement.{judgement}
-use Rattle.word.specs.Many.{bytesFor, manyRows}
-use Rattle.word.proofs.Words.{length-bytes, kept-whole, many-refused, whole-left}
+use Rattle.word.specs.Many.{bytesFor, writeRows}
+use Rattle.word.proofs.Words.{length-bytes, fit-whole, many-refused, whole-left}
 use borrow.Author.Needs.{needs}
 use Rattle.word.proofs.many.write_all.Statement.{statement}
 use Rattle.word.proofs.many.write_all.Tie as tie
 
-judge-requires : tie.Need-judge-requires
-judge-requires c κs = search needs
+judge-words-requires : tie.Need-judge-words-requires
+judge-words-requires c κs = search needs
 
 enum-told : tie.Need-enum-told
 enum-told c = search needs
 
-abbrev start : tie.After-judge → tie.Start
+abbrev start : tie.After-judge-words → tie.Start
 start c = c .before .before .before
 
-kept : (c : tie.After-enum-told) → let a = start (c .before .before) .args in Kept ≡ judgement (manyRows (a .length) (count (a .words .now)) (count (a .out .now)))
-kept c = sym (c .enum-told .given .1) ∙ c .before .before .judge .ensures
+kept : (c : tie.After-enum-told) → let a = start (c .before .before) .args in Kept ≡ judgement (writeRows (a .length) (a .words .now) (count (a .out .now)))
+kept c = sym (c .enum-told .given .1) ∙ c .before .before .judge-words .ensures
 
 write-by-length-requires : tie.Need-write-by-length-requires
-write-by-length-requires c κs = let a = start (c .before .before .before) .args in kept-whole (a .length) (count (a .words .now)) (count (a .out .now)) (kept (c .before))
+write-by-length-requires c κs = let a = start (c .before .before .before) .args in fit-whole (a .length) (a .words .now) (count (a .out .now)) (kept (c .before))
 
 enum-known-judged : tie.Need-enum-known-judged
 enum-known-judged c = search needs
@@ -36,19 +36,19 @@ returns c =
     let t = w .before .before in
     let a = start (t .before .before) .args in
     let k = kept t in
-    whole-left (a .length) (count (a .words .now)) (count (a .out .now)) (bytesFor (a .length) (a .words .now)) (a .out .now) (w .write-by-length .last .0) k (length-bytes (a .length) (a .words .now) ∙ sym (kept-whole (a .length) (count (a .words .now)) (count (a .out .now)) k .1)) (w .write-by-length .ensures)
+    whole-left (writeRows (a .length) (a .words .now) (count (a .out .now))) (bytesFor (a .length) (a .words .now)) (a .out .now) (w .write-by-length .last .0) k (length-bytes (a .length) (a .words .now) ∙ sym (fit-whole (a .length) (a .words .now) (count (a .out .now)) k .1)) (w .write-by-length .ensures)
 
 returns-2 : tie.Need-returns-2
 returns-2 c =
     let d = c .before .before .before in
     let a = start d .args in
-    many-refused (a .length) (count (a .words .now)) (count (a .out .now)) (bytesFor (a .length) (a .words .now)) (a .out .now) (c .before .judged .given .0 .0) (sym (c .before .judged .given .1) ∙ d .judge .ensures)
+    many-refused (writeRows (a .length) (a .words .now) (count (a .out .now))) (bytesFor (a .length) (a .words .now)) (a .out .now) (c .before .judged .given .0 .0) (sym (c .before .judged .given .1) ∙ d .judge-words .ensures)
 
 pub write-all-spec : {M : Type 1} → statement M
 write-all-spec =
     tie.close
     (tie.spec
-    judge-requires
+    judge-words-requires
     enum-told
     write-by-length-requires
     enum-known-judged
