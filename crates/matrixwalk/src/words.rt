@@ -75,22 +75,6 @@ fn tight_word(bytes: &[u8], at: usize, until: usize, rule: Rule) -> usize
     until
 }
 
-// The byte of the word at a place that breaks its rule, or `until` where none before that does, byte by byte.
-fn judge_bytes(bytes: &[u8], at: usize, until: usize, rule: Rule) -> usize
-    requires { ⌜ LookedAt (now bytes) at until rule ⌝ }
-    ensures { λ r. ⌜ Judges (now (bytes .entry)) at until rule r ⌝ }
-{
-    let first = limit_at(rule.greatest, rule.length - 1);
-    let b = byte(bytes, at) & mask_of(rule);
-    if first < b {
-        return at;
-    }
-    if b < first {
-        return until;
-    }
-    tight_word(bytes, at, until, rule)
-}
-
 // The word of `length` bytes at a place where they are.
 fn word_at(bytes: &[u8], at: usize, length: usize) -> u64
     requires { ⌜ (length ≤ 8) × (at + length ≤ count (now bytes)) ⌝ }
@@ -104,9 +88,9 @@ fn word_at(bytes: &[u8], at: usize, length: usize) -> u64
     }
 }
 
-// The same by the check of its form where the whole word is there; its bytes tell the place of a refusal, or what is cut.
-fn judge_word(bytes: &[u8], at: usize, until: usize, rule: Rule, form: Form) -> usize
-    requires { ⌜ LookedAt (now bytes) at until rule × (rule ≡ ruleOf form) × (rule .length ≡ form .length) ⌝ }
+// A word whose first byte is its limit's: where it is whole, its form's check tells whether it keeps the rule, and its bytes the place of a refusal, or what is cut.
+fn judge_tight(bytes: &[u8], at: usize, until: usize, rule: Rule, form: Form) -> usize
+    requires { ⌜ LookedAt (now bytes) at until rule × (cleared (rule .sign / 256 ^ (rule .length - 1)) (getD (now bytes) at 0) ≡ rule .greatest / 256 ^ (rule .length - 1)) × (rule ≡ ruleOf form) × (rule .length ≡ form .length) ⌝ }
     ensures { λ r. ⌜ Judges (now (bytes .entry)) at until rule r ⌝ }
 {
     if form.length <= until - at {
@@ -114,7 +98,30 @@ fn judge_word(bytes: &[u8], at: usize, until: usize, rule: Rule, form: Form) -> 
             return until;
         }
     }
-    judge_bytes(bytes, at, until, rule)
+    tight_word(bytes, at, until, rule)
+}
+
+// The byte of the word at a place that breaks its rule, or `until` where none before that does.
+fn judge_word(
+    bytes: &[u8],
+    at: usize,
+    until: usize,
+    rule: Rule,
+    form: Form,
+    mask: usize,
+    first: usize,
+) -> usize
+    requires { ⌜ LookedAt (now bytes) at until rule × (rule ≡ ruleOf form) × (rule .length ≡ form .length) × (mask ≡ maskOf rule) × (first ≡ rule .greatest / 256 ^ (rule .length - 1)) ⌝ }
+    ensures { λ r. ⌜ Judges (now (bytes .entry)) at until rule r ⌝ }
+{
+    let b = byte(bytes, at) & mask;
+    if first < b {
+        return at;
+    }
+    if b < first {
+        return until;
+    }
+    judge_tight(bytes, at, until, rule, form)
 }
 
 // The byte of the words from a place on that breaks their rule, or `until` where none before that does, word by word.
@@ -122,9 +129,11 @@ fn check_each(bytes: &[u8], place: usize, until: usize, rule: Rule, form: Form) 
     requires { ⌜ Checked (now bytes) place until rule form ⌝ }
     ensures { λ r. ⌜ Checks (now (bytes .entry)) place until rule r ⌝ }
 {
+    let mask = mask_of(rule);
+    let first = limit_at(rule.greatest, rule.length - 1);
     let mut at = place;
     while at < until {
-        let broken = judge_word(bytes, at, until, rule, form);
+        let broken = judge_word(bytes, at, until, rule, form, mask, first);
         if broken < until {
             return broken;
         }

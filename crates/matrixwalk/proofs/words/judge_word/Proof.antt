@@ -1,46 +1,44 @@
--- `matrixwalk::words::judge_word` meets its contract: a whole word that its form's check admits breaks its rule nowhere. Assumes nothing.
-use Prim.Native.Nat.{ℕ}
-use mathlib.Core.Path.{_≡_, sym, ap, _∙_, subst}
-use mathlib.Core.Bool.{true}
+-- `matrixwalk::words::judge_word` meets its contract: by the first byte against its limit's. Assumes nothing.
+use Prim.Native.Nat.{_-_, _/_, _^_}
+use mathlib.Core.Path.{_≡_, _∙_}
 use native.Mathlib.Omega.{arith}
 use borrow.Author.Needs.{needs}
-use Rattle.rule.specs.declared.rules.Rule.{Rule}
-use Rattle.rule.specs.Rules.{admitted, ruleOf}
-use Rattle.rule.proofs.Certain.{admitted-keeps}
-use Rattle.word.specs.Bytes.{wordAt}
-use Rattle.matrixwalk.proofs.Passing.{whole-keeps}
+use lib.Bits.{bitAnd}
+use lib.ListN.{getD}
+use Rattle.rule.specs.Rules.{cleared}
+use Rattle.matrixwalk.proofs.Passing.{first-over, first-below, masked}
 use Rattle.matrixwalk.proofs.words.judge_word.Statement.{statement}
 use Rattle.matrixwalk.proofs.words.judge_word.Tie as tie
 
-sub-if1 : tie.Need-sub-if1
-sub-if1 c = search needs
+byte-requires : tie.Need-byte-requires
+byte-requires c κs = search needs
 
-word-at-requires : tie.Need-word-at-requires
-word-at-requires c κs =
-    let s = c .before .before .before in
-    (omega (arith, s .pre .0 .sound .short, s .pre .2), omega (arith, c .if1 .taken, s .pre .0 .before, s .pre .0 .within))
-
-admits-requires : tie.Need-admits-requires
-admits-requires c κs = search needs
+-- what of the first byte counts
+counts : (c : tie.After-byte) → let a = c .before .before .args in cleared (a .rule .sign / 256 ^ (a .rule .length - 1)) (getD (a .bytes .now) (a .at) 0) ≡ bitAnd (c .byte .result) (a .mask)
+counts c =
+    let s = c .before .before in
+    let a = s .args in
+    masked (a .rule) (s .pre .0 .sound) (s .pre .0 .some) (getD (a .bytes .now) (a .at) 0) (c .byte .result) (a .mask) (c .byte .ensures .0) (c .byte .ensures .1) (s .pre .3)
 
 returns : tie.Need-returns
 returns c =
-    let w = c .before .before in
-    let k = w .before .before .before in
-    let s = k .before in
+    let s = c .before .before .before in
     let a = s .args in
-    let admits : admitted (a .rule) (wordAt (a .bytes .now) (a .at) (a .rule .length)) ≡ true =
-    subst (λ (rule : Rule). admitted rule (wordAt (a .bytes .now) (a .at) (a .rule .length)) ≡ true) (sym (s .pre .1))
-    (subst (λ (n : ℕ). admitted (ruleOf (a .form)) (wordAt (a .bytes .now) (a .at) n) ≡ true) (sym (s .pre .2))
-    (ap (admitted (ruleOf (a .form))) (sym (w .word-at .ensures)) ∙ sym (c .before .admits .ensures) ∙ c .if2 .taken)) in
-    whole-keeps (a .bytes .now) (a .at) (a .until) (a .rule) (s .pre .0) (λ i. k .shared-slice-known .given i .fits) (omega (arith, w .before .if1 .taken, s .pre .2)) (admitted-keeps (a .rule) _ .0 admits)
-
-judge-bytes-requires : tie.Need-judge-bytes-requires
-judge-bytes-requires c κs = search needs
+    first-over (a .bytes .now) (a .at) (a .until) (a .rule) (s .pre .0) (bitAnd (c .before .byte .result) (a .mask)) (counts (c .before)) (omega arith)
 
 returns-2 : tie.Need-returns-2
-returns-2 c = search needs
+returns-2 c =
+    let k = c .before .before .before in
+    let s = k .before in
+    let a = s .args in
+    first-below (a .bytes .now) (a .at) (a .until) (a .rule) (s .pre .0) (bitAnd (c .before .before .byte .result) (a .mask)) (counts (c .before .before)) (λ i. k .shared-slice-known .given i .fits) (omega arith)
+
+judge-tight-requires : tie.Need-judge-tight-requires
+judge-tight-requires c κs = let s = c .before .before .before .before in (s .pre .0, counts (c .before .before) ∙ omega arith, s .pre .1, s .pre .2)
+
+returns-3 : tie.Need-returns-3
+returns-3 c = search needs
 
 pub judge-word-spec : {M : Type 1} → statement M
 judge-word-spec =
-    tie.close (tie.spec sub-if1 word-at-requires admits-requires returns judge-bytes-requires returns-2)
+    tie.close (tie.spec byte-requires returns returns-2 judge-tight-requires returns-3)
