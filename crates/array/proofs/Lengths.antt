@@ -1,13 +1,13 @@
 -- How long an array pack can be. Assumes nothing.
 use Prim.Native.Nat.{ℕ, zero, suc, _+_, _*_, _/_, _≤_, _<_}
 use mathlib.Core.Path.{_≡_, subst}
-use mathlib.Core.List.{List, [], _∷_, _++_}
+use mathlib.Core.List.{List, [], _∷_}
 use native.Mathlib.Nat.{mul-le-mul-right}
 use native.Mathlib.Omega.{arith}
 use lib.ListN.{length, getD, length-append}
 use Rattle.number.specs.Octets.{high, octets, numbers}
 use Rattle.number.proofs.Counts.{length-octets, length-high, length-high-none}
-use Rattle.array.specs.Meaning.{product, most, Array, Lawful}
+use Rattle.array.specs.Meaning.{most}
 use Rattle.array.specs.Spelling.{bytesOf, ArrayPack}
 use Rattle.array.proofs.Products.{product-positive, size-most}
 
