@@ -92,8 +92,12 @@ isOk (Cut missing) = 0
 isOk (Bad refusal) = 0
 isOk Open = 0
 
+-- a refusal is not `OK`
+pub refusing-other : (found kind : Kind) (reason : Reason) (n : ℕ) → refusing found reason ≡ record { kind = kind; outcome = Ok n } → ⊥
+refusing-other found kind reason n e = let z : _≡_ {A = ℕ} 0 1 = ap (λ (a : Answer). isOk (a .outcome)) e in absurd (omega arith)
+
 refused-means : (w : List ℕ) (found : Kind) (reason : Reason) → Means w (refusing found reason)
-refused-means w found reason kind n e = let z : _≡_ {A = ℕ} 0 1 = ap (λ (a : Answer). isOk (a .outcome)) e in absurd (omega arith)
+refused-means w found reason kind n e = absurd (refusing-other found kind reason n e)
 
 -- the count of an outcome that is `OK`
 abbrev okOf : Outcome → ℕ

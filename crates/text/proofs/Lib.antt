@@ -2,3 +2,4 @@ pub mod Decimals
 pub mod Spelling
 pub mod Lines
 pub mod Only
+pub mod Stating

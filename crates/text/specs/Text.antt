@@ -3,6 +3,8 @@ use Prim.Native.Nat.{ℕ, zero, suc, _+_, _/_, _%_}
 use mathlib.Core.Bool.{cond}
 use mathlib.Core.List.{List, [], _∷_, _++_}
 use lib.Dec.{ltb}
+use lib.ListN.{getD}
+use Rattle.verdict.specs.Stated.{Stated, gives, misses, refuses}
 use Rattle.verdict.specs.Numbers.{numberOf}
 use Rattle.frame.specs.declared.Kind.{Kind}
 use Rattle.frame.specs.declared.Kind.the-variants.{Matrix, Array, Unknown}
@@ -35,6 +37,17 @@ secondOf (Ok count) = 0
 secondOf (Cut missing) = 0
 secondOf (Bad refusal) = refusal .place
 secondOf Open = 0
+
+-- the two numbers of what is stated: the first value, and 0 beside it; the missing bytes, and 0; the refusal's number and its place
+abbrev pub firstStated : Stated → ℕ
+firstStated (gives values) = getD values 0 0
+firstStated (misses missing) = missing
+firstStated (refuses number place) = number
+
+abbrev pub secondStated : Stated → ℕ
+secondStated (gives values) = 0
+secondStated (misses missing) = 0
+secondStated (refuses number place) = place
 
 -- a number's decimal digits, at most one more than so many
 unfoldable pub decimalIn : ℕ → ℕ → List ℕ
