@@ -3,3 +3,4 @@ pub mod Spelling
 pub mod Lines
 pub mod Only
 pub mod Stating
+pub mod Failing
