@@ -6,3 +6,4 @@ pub mod Decoding
 pub mod Complete
 pub mod Drawing
 pub mod Offsets
+pub mod Lengths

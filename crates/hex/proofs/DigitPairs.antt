@@ -1,16 +1,23 @@
 -- Laws of pairs of hexadecimal digits: which texts are such pairs, what a digit is worth, the bytes spelled so far, and what `decode` answers. Assumes nothing.
 use Prim.Native.Nat.{ℕ, suc, _+_, _*_, _/_, _%_, _≤_, _<_}
-use mathlib.Core.Path.{_≡_, refl, sym, ap, ap₂, _∙_}
-use mathlib.Core.Bool.{Bool, true, false, _&&_, and-true, and-false, and-assoc, and-eq-true-iff}
+use mathlib.Core.Path.{_≡_, refl, sym, ap, ap₂, _∙_, subst}
+use mathlib.Core.Bool.{Bool, true, false, not, _&&_, and-true, and-false, and-assoc, and-eq-true-iff}
 use mathlib.Core.List.{List, [], _∷_, _++_, append-nil}
 use native.Mathlib.Numerals.{add-one}
 use native.Mathlib.Omega.{arith}
-use borrow.Author.Tests.{leb-true, le-leb, lt-leb}
+use borrow.Author.Tests.{leb-true, le-leb, lt-leb, le-ltb}
 use lib.Dec.{leb}
 use lib.ListN.{length, take, drop, getD, set, length-set, length-append, length-drop, take-append-drop, drop-of-length-le}
 use lib.Seq.{drop-cons, take-suc-set, drop-set-lt, append-snoc, take-at}
-use Rattle.verdict.proofs.Cases.{either, or-left, by-test}
-use Rattle.hex.specs.Hex.{isDigit, digitOf, isHex, hexOf, decodes, Decoded}
+use Rattle.verdict.specs.declared.Reason.the-variants.{Character, SmallBuffer}
+use Rattle.verdict.specs.declared.Verdict.{Verdict}
+use Rattle.verdict.specs.declared.Verdict.the-variants.{Complete, Unfinished, Refused}
+use Rattle.verdict.specs.Rows.{Row, Blamed}
+use Rattle.verdict.specs.Writing.{refusing, decided, roomRows}
+use Rattle.verdict.proofs.Cases.{either, or-left}
+use Rattle.verdict.proofs.Deciding.{written-on, written-off, kept-written, room-missing, room-enough}
+use Rattle.verdict.proofs.Putting.{put-first}
+use Rattle.hex.specs.Hex.{isDigit, digitOf, isHex, hexOf, hexRows, Decoded}
 
 -- whether each character is a digit
 unfoldable pub allDigits : List ℕ → Bool
@@ -40,7 +47,7 @@ unfolding allDigits
 digits-all text i good h = rw (drop-of-length-le text h, and-true)
 
 -- the decimal digits and the letters
-digit-ranges : {P : Type 0} (c : ℕ) → isDigit c ≡ true → (48 ≤ c → c ≤ 57 → P) → (65 ≤ c → c ≤ 70 → P) → P
+pub digit-ranges : {P : Type 0} (c : ℕ) → isDigit c ≡ true → (48 ≤ c → c ≤ 57 → P) → (65 ≤ c → c ≤ 70 → P) → P
 digit-ranges c h f g =
     either (leb 65 c && leb c 70)
     (λ e. let both = and-eq-true-iff (leb 65 c) (leb c 70) .0 e in g (leb-true 65 c (both .0)) (leb-true c 70 (both .1)))
@@ -115,26 +122,51 @@ module _ (text out₀ : List ℕ) where
         let front : hexOf text ≡ take i out = s .means ∙ rw (none, append-nil) in
         sym (take-append-drop i out) ∙ ap₂ (λ (xs ys : List ℕ). xs ++ ys) (sym front) (ap (λ (n : ℕ). drop n out) h ∙ s .behind)
 
--- what `decode` answers: its bytes have no room, the text is no pairs of digits, or they are spelled
+-- what `decode` answers: the text is no pairs of digits, its bytes have no room, or they are spelled
 module _ (text out : List ℕ) where
-  pub decoded-small : length out < length text / 2 → Decoded text out false out
-  decoded-small h = let t = lt-leb (length text / 2) (length out) h in record { said = rw t; left = rw t }
+  abbrev characterRows : List Row
+  characterRows = record { broken = not (isHex text); reason = Character } ∷ []
 
-  pub decoded-none : isHex text ≡ false → Decoded text out false out
-  decoded-none h = let t : decodes text out ≡ false = simp (h, and-false) in record { said = sym t; left = rw t }
+  abbrev lastRows : List Row
+  lastRows = roomRows (length (hexOf text)) (length out)
 
-  module _ (room : length text / 2 ≤ length out) where
-    pub decoded-all : isHex text ≡ true → (out′ : List ℕ) → out′ ≡ hexOf text ++ drop (length text / 2) out → Decoded text out true out′
-    decoded-all h out′ e = let t : decodes text out ≡ true = rw (le-leb (length text / 2) (length out) room, h) in record { said = sym t; left = rw t e }
+  pub decoded-none : isHex text ≡ false → Decoded text out (refusing Character) out
+  unfolding Blamed
+  decoded-none h = written-off characterRows lastRows (hexOf text) out 0 Character (rw h)
 
-    module _ (answer : Bool) (out′ : List ℕ) (d : Decoded text out answer out′) where
-      -- in bytes that have room, the answer tells whether the text is pairs of digits
-      pub decoded-hex : answer ≡ isHex text
-      decoded-hex = d .said ∙ rw (le-leb (length text / 2) (length out) room)
+  module _ (pairs : isHex text ≡ true) where
+    pub decoded-small : length out < length text / 2 → Decoded text out (refusing SmallBuffer) out
+    decoded-small h =
+        written-on characterRows lastRows (hexOf text) out 0 (refusing SmallBuffer) out (rw pairs, tt) (room-missing (hexOf text) out 0 (length out) (rw hex-length h))
 
-      pub decoded-length : length out′ ≡ length out
-      decoded-length =
-          ap length (d .left) ∙ by-test (λ (bytes : List ℕ). length bytes ≡ length out) (decodes text out) (hexOf text ++ drop (length text / 2) out) out (λ _. hex-over text out room) (λ _. refl)
+    pub decoded-all : length text / 2 ≤ length out → (out′ : List ℕ) → out′ ≡ hexOf text ++ drop (length text / 2) out → Decoded text out (Complete (length text / 2)) out′
+    decoded-all h out′ e =
+        let count = hex-length text in
+        written-on characterRows lastRows (hexOf text) out 0 (Complete (length text / 2)) out′ (rw pairs, tt)
+        (room-enough (hexOf text) out 0 (length out) (length text / 2) out′ (rw count h) (sym count) (e ∙ sym (put-first out (hexOf text) ∙ rw count)))
 
-      pub decoded-front : answer ≡ true → take (length text / 2) out′ ≡ hexOf text
-      decoded-front e = let t : decodes text out ≡ true = sym (d .said) ∙ e in ap (take (length text / 2)) (d .left ∙ rw t) ∙ hex-front text (drop (length text / 2) out)
+  -- what an answer tells where the bytes have room
+  abbrev pub Tells : Verdict → List ℕ → Type 0
+  Tells (Complete n) out′ = (isHex text ≡ true) × ((n ≡ length text / 2) × (take n out′ ≡ hexOf text))
+  Tells (Unfinished n) out′ = ⊥
+  Tells (Refused refusal) out′ = (isHex text ≡ false) × (refusal ≡ record { reason = Character; place = 0 })
+
+  module _ (room : length text / 2 ≤ length out) (answer : Verdict) (out′ : List ℕ) (d : Decoded text out answer out′) where
+    decoded-hex : isHex text ≡ true → (answer ≡ Complete (length text / 2)) × (out′ ≡ hexOf text ++ drop (length text / 2) out)
+    decoded-hex h =
+        let count = hex-length text in
+        let w = kept-written (hexRows text out) (hexOf text) out answer out′ (rw h, (rw count (le-ltb (length out) (length text / 2) room), tt)) d in
+        (w .0 ∙ ap Complete count, w .1 ∙ rw count)
+
+    decoded-other : isHex text ≡ false → (answer ≡ refusing Character) × (out′ ≡ out)
+    unfolding decided
+    decoded-other h = let t : decided (hexRows text out) (Complete (length (hexOf text))) ≡ refusing Character = rw h in (d .said ∙ t, d .left ∙ rw t)
+
+    pub decoded-tells : Tells answer out′
+    decoded-tells =
+        either (isHex text)
+        (λ h. subst (λ (v : Verdict). Tells v out′) (sym (decoded-hex h .0)) (h, (refl, ap (take (length text / 2)) (decoded-hex h .1) ∙ hex-front text (drop (length text / 2) out))))
+        (λ h. subst (λ (v : Verdict). Tells v out′) (sym (decoded-other h .0)) (h, refl))
+
+    pub decoded-length : length out′ ≡ length out
+    decoded-length = either (isHex text) (λ h. ap length (decoded-hex h .1) ∙ hex-over text out room) (λ h. ap length (decoded-other h .1))

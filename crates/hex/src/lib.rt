@@ -5,6 +5,9 @@ ghost use mathlib.Core.List.{_++_};
 ghost use Prim.Native.Nat.{_≤_, _/_};
 ghost use lib.ListN.{length, drop};
 ghost use Rattle.hex.specs.Hex.{isDigit, digitOf, isHex, hexOf, Decoded};
+use verdict::Reason;
+use verdict::Refusal;
+use verdict::Verdict;
 
 fn is_digit(c: u8) -> bool
     ensures { λ r. ⌜ r ≡ isDigit c ⌝ }
@@ -51,16 +54,22 @@ fn spell(text: &[u8], out: &mut [u8])
     }
 }
 
-// The bytes that a text spells, at the front of `out`: whether it is pairs of digits and its bytes have room, without which nothing is written.
-pub fn decode(text: &[u8], out: &mut [u8]) -> bool
+// The bytes that a text spells, at the front of `out`: the count of them; 20 where it is not pairs of digits, then 13.
+pub fn decode(text: &[u8], out: &mut [u8]) -> Verdict
     ensures { λ r. ⌜ Decoded (now (text .entry)) (now (out .entry)) r (now (out .exit)) ⌝ }
 {
+    if !is_hex(text) {
+        return Verdict::Refused(Refusal {
+            reason: Reason::Character,
+            place: 0,
+        });
+    }
     if out.len() < text.len() / 2 {
-        return false;
+        return Verdict::Refused(Refusal {
+            reason: Reason::SmallBuffer,
+            place: 0,
+        });
     }
-    if is_hex(text) {
-        spell(text, out);
-        return true;
-    }
-    false
+    spell(text, out);
+    Verdict::Complete(text.len() / 2)
 }

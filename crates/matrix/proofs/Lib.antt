@@ -15,3 +15,4 @@ pub mod Counts
 pub mod Judgements
 pub mod Ones
 pub mod VectorRuns
+pub mod Lengths

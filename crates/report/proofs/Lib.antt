@@ -4,3 +4,5 @@ pub mod Reporting
 pub mod Chunks
 pub mod Progress
 pub mod Only
+pub mod Stating
+pub mod Lines

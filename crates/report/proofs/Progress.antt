@@ -1,6 +1,7 @@
 -- A call of `feed` goes forward, stays within what was lent, and is one of the calls that write the report. Assumes nothing.
 use Prim.Native.Nat.{ℕ, suc, _+_, _-_, _≤_}
 use mathlib.Core.Path.{_≡_, refl, sym, ap, ap₂, _∙_}
+use mathlib.Core.Bool.{Bool, true, false, cond}
 use mathlib.Core.List.{List, [], _∷_, _++_}
 use native.Mathlib.Omega.{arith}
 use borrow.Author.Tests.{le-ltb}
@@ -16,7 +17,7 @@ use Rattle.text.specs.Text.{textOf}
 use Rattle.verdict.specs.Writing.{put}
 use Rattle.text.specs.Writing.{room}
 use Rattle.report.specs.Report.{nextNumber}
-use Rattle.report.specs.Feeding.{kept, heldOn, heldAnswer, Came, cameOf, Fed, FedBy, Calls, more}
+use Rattle.report.specs.Feeding.{kept, heldOn, heldAnswer, Came, cameOf, Fed, Kept, tooSmall, FedBy, Calls, more}
 
 -- a call with room for a line takes at least one character of a chunk that has any
 pub came-forward : (number held left : ℕ) (buffer chunk : List ℕ) → room ≤ left → 1 ≤ length chunk → 1 ≤ cameOf number held buffer left chunk .taken
@@ -43,6 +44,14 @@ takenIn (Refused refusal) = 0
 abbrev writtenIn : Feeding → ℕ
 writtenIn (FedCase state taken written) = written
 writtenIn (Refused refusal) = 0
+
+-- a call that is not refused takes no more than there is
+pub fed-within : (state : State) (chunk buffer out : List ℕ) (next : State) (taken written : ℕ) (buffer′ out′ : List ℕ) → FedBy state chunk buffer out (FedCase next taken written) buffer′ out′ → taken ≤ length chunk
+fed-within state chunk buffer out next taken written buffer′ out′ = go (tooSmall buffer out)
+  where
+    go : (t : Bool) → cond t (Kept buffer out (FedCase next taken written) buffer′ out′) (Fed state chunk buffer out (FedCase next taken written) buffer′ out′) → taken ≤ length chunk
+    go true k = omega (arith, ap takenIn (k .said))
+    go false f = omega (arith, ap takenIn (f .said), came-within chunk (state .number) (state .held) (length out) buffer)
 
 put-fits : (out text : List ℕ) → length (put out 0 text) ≡ length out → length text ≤ length out
 unfolding put

@@ -25,3 +25,13 @@ reportFrom number line (c ∷ input) =
 
 abbrev pub reportOf : List ℕ → List ℕ
 reportOf input = reportFrom 1 [] input
+
+-- lines, each closed by LF, and behind them a last one that is not
+unfoldable pub closed : List (List ℕ) → List ℕ → List ℕ
+closed [] last = last
+closed (line ∷ lines) last = line ++ (10 ∷ closed lines last)
+
+-- a report line for each, in their order
+unfoldable pub answers : ℕ → List (List ℕ) → List ℕ → List ℕ
+answers number [] last = openText number last
+answers number (line ∷ lines) last = textOf number (lineAnswer line) ++ answers (nextNumber number) lines last

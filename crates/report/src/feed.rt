@@ -63,11 +63,15 @@ fn line_answer(text: &[u8], bytes: &mut [u8]) -> Answer
     requires { ⌜ (length (now text) ≤ longestLine) × (32832 ≤ length (now bytes)) ⌝ }
     ensures { λ r. ⌜ (r ≡ lineAnswer (now (text .entry))) × (length (now (bytes .exit)) ≡ length (now (bytes .entry))) ⌝ }
 {
-    if decode(text, bytes) {
-        let count = text.len() / 2;
-        return examine(&bytes[..count]);
+    let decoded = decode(text, bytes);
+    match decoded {
+        Verdict::Complete(count) => examine(&bytes[..count]),
+        Verdict::Unfinished(_) => refuse(Kind::Unknown, Reason::Character),
+        Verdict::Refused(refusal) => Answer {
+            kind: Kind::Unknown,
+            outcome: Outcome::Bad(refusal),
+        },
     }
-    refuse(Kind::Unknown, Reason::Character)
 }
 
 // The answer to the line that is held.

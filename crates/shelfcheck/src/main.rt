@@ -1,108 +1,70 @@
-// Checks a file of frames: a line of hexadecimal for each on standard input, a report line for each on standard output.
-ghost use Prim.Native.Nat.{_≤_};
-ghost use lib.ListN.{length};
-ghost use Rattle.report.specs.Line.{longestLine};
-ghost use Rattle.text.specs.Writing.{room};
+// Checks a file of frames: a line of hexadecimal for each on standard input, a report line for each on standard output. Here it only reads, writes and asks `work` what comes next.
+use libc::STDERR_FILENO;
 use libc::STDIN_FILENO;
 use libc::STDOUT_FILENO;
-use report::feed::Feeding;
-use report::feed::State;
-use report::feed::feed;
-use report::feed::finish;
-use report::feed::start;
-use verdict::Verdict;
+use text::Failure;
+use work::Ask;
+use work::Work;
 
-// Where the program stands: whether it goes on, whether a write failed, and the report's state.
-struct Turn {
-    more: bool,
-    failed: bool,
-    state: State,
-}
+mod work;
 
-// Feeds all of a chunk and writes what comes out.
-fn pass(before: State, chunk: &[u8], line: &mut [u8], out: &mut [u8]) -> Turn
-    requires { ⌜ (longestLine ≤ length (now line)) × (room ≤ length (now out)) ⌝ }
-{
-    let mut state = before;
-    let mut from = 0;
-    while from < chunk.len() {
-        let fed = feed(state, &chunk[from..], line, out);
-        match fed {
-            Feeding::Fed {
-                state: next,
-                taken,
-                written,
-            } => {
-                if !io::write_all(STDOUT_FILENO, &out[..written]) {
-                    return Turn {
-                        more: false,
-                        failed: true,
-                        state: next,
-                    };
-                }
-                state = next;
-                from += taken;
-            }
-            Feeding::Refused(_) => {
-                return Turn {
-                    more: false,
-                    failed: true,
-                    state,
-                };
-            }
-        }
-    }
-    Turn {
-        more: true,
-        failed: false,
-        state,
+// Whether anything is asked.
+fn goes_on(work: Work) -> bool {
+    let ask = work.ask;
+    match ask {
+        Ask::Read => true,
+        Ask::Write(_) => true,
+        Ask::Say(_) => true,
+        Ask::Stop => false,
+        Ask::Refused(_) => false,
     }
 }
 
-// One read, with all that it brings.
-fn take_turn(state: State, chunk: &mut [u8], line: &mut [u8], out: &mut [u8]) -> Turn
-    requires { ⌜ (longestLine ≤ length (now line)) × (room ≤ length (now out)) ⌝ }
-{
+// One read.
+fn read(work: Work, chunk: &mut [u8], line: &mut [u8], out: &mut [u8]) -> Work {
     let got = libc::read(STDIN_FILENO, chunk);
-    if got <= 0 {
-        return Turn {
-            more: false,
-            failed: false,
-            state,
-        };
+    if got < 0 {
+        return work::fail(work, Failure::Reading, out);
     }
-    let n = io::count(got, chunk);
-    pass(state, &chunk[..n], line, out)
+    let count = io::count(got, chunk);
+    work::after_read(work, count, chunk, line, out)
 }
 
-// Reads to the end of the input; the count of turns is more than any input takes.
-fn run(chunk: &mut [u8], line: &mut [u8], out: &mut [u8]) -> Turn
-    requires { ⌜ (longestLine ≤ length (now line)) × (room ≤ length (now out)) ⌝ }
-{
-    let mut turn = Turn {
-        more: true,
-        failed: false,
-        state: start(),
-    };
-    let mut turns = u64::MAX;
-    while turns > 0 && turn.more {
-        let state = turn.state;
-        turn = take_turn(state, chunk, line, out);
-        turns -= 1;
+// The front of the output to a file: whether all of it was written.
+fn put(file: i32, out: &[u8], count: usize) -> bool {
+    if out.len() < count {
+        return false;
     }
-    turn
+    io::write_all(file, &out[..count])
 }
 
-fn write_last(state: State, out: &mut [u8]) {
-    let said = finish(state, out);
-    match said {
-        Verdict::Complete(count) => {
-            if count <= out.len() {
-                io::write_all(STDOUT_FILENO, &out[..count]);
+// One turn: what is asked is done.
+fn take_turn(work: Work, chunk: &mut [u8], line: &mut [u8], out: &mut [u8]) -> Work {
+    let ask = work.ask;
+    match ask {
+        Ask::Read => read(work, chunk, line, out),
+        Ask::Write(count) => {
+            if put(STDOUT_FILENO, out, count) {
+                return work::after_write(work, chunk, line, out);
             }
+            work::fail(work, Failure::Writing, out)
         }
-        Verdict::Unfinished(_) => {}
-        Verdict::Refused(_) => {}
+        Ask::Say(count) => {
+            put(STDERR_FILENO, out, count);
+            work::stop(work)
+        }
+        Ask::Stop => work,
+        Ask::Refused(_) => work,
+    }
+}
+
+// Turn after turn; their count is more than any input takes.
+fn run(chunk: &mut [u8], line: &mut [u8], out: &mut [u8]) {
+    let mut work = work::begin();
+    let mut turns = u64::MAX;
+    while turns > 0 && goes_on(work) {
+        work = take_turn(work, chunk, line, out);
+        turns -= 1;
     }
 }
 
@@ -110,9 +72,5 @@ fn main() {
     let mut chunk = [0u8; 65536];
     let mut line = [0u8; 65664];
     let mut out = [0u8; 65536];
-    let turn = run(&mut chunk, &mut line, &mut out);
-    if !turn.failed {
-        let state = turn.state;
-        write_last(state, &mut out);
-    }
+    run(&mut chunk, &mut line, &mut out);
 }

@@ -2,3 +2,5 @@ pub mod Decimals
 pub mod Spelling
 pub mod Lines
 pub mod Only
+pub mod Stating
+pub mod Failing

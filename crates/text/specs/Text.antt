@@ -1,14 +1,18 @@
--- The text of a report line: its number, kind, word, two numbers, LF, in ASCII.
+-- The text of a report line: its number, kind, word, two numbers, LF, in ASCII; and of a failure.
 use Prim.Native.Nat.{ℕ, zero, suc, _+_, _/_, _%_}
 use mathlib.Core.Bool.{cond}
 use mathlib.Core.List.{List, [], _∷_, _++_}
 use lib.Dec.{ltb}
+use lib.ListN.{getD}
+use Rattle.verdict.specs.Stated.{Stated, gives, misses, refuses}
 use Rattle.verdict.specs.Numbers.{numberOf}
 use Rattle.frame.specs.declared.Kind.{Kind}
 use Rattle.frame.specs.declared.Kind.the-variants.{Matrix, Array, Unknown}
 use Rattle.frame.specs.declared.Outcome.{Outcome}
 use Rattle.frame.specs.declared.Outcome.the-variants.{Ok, Cut, Bad, Open}
 use Rattle.frame.specs.declared.Answer.{Answer}
+use Rattle.text.specs.declared.Failure.{Failure}
+use Rattle.text.specs.declared.Failure.the-variants.{Reading, Writing}
 
 -- S a matrix, M an array, - where the key is not known
 abbrev pub letterOf : Kind → ℕ
@@ -36,6 +40,17 @@ secondOf (Cut missing) = 0
 secondOf (Bad refusal) = refusal .place
 secondOf Open = 0
 
+-- the two numbers of what is stated: the first value, and 0 beside it; the missing bytes, and 0; the refusal's number and its place
+abbrev pub firstStated : Stated → ℕ
+firstStated (gives values) = getD values 0 0
+firstStated (misses missing) = missing
+firstStated (refuses number place) = number
+
+abbrev pub secondStated : Stated → ℕ
+secondStated (gives values) = 0
+secondStated (misses missing) = 0
+secondStated (refuses number place) = place
+
 -- a number's decimal digits, at most one more than so many
 unfoldable pub decimalIn : ℕ → ℕ → List ℕ
 decimalIn zero n = (48 + n % 10) ∷ []
@@ -55,3 +70,17 @@ tailOf outcome = 32 ∷ decimal (firstOf outcome) ++ (32 ∷ decimal (secondOf o
 
 abbrev pub textOf : ℕ → Answer → List ℕ
 textOf number answer = headOf number answer ++ tailOf (answer .outcome)
+
+-- reading, writing
+abbrev pub failureWord : Failure → List ℕ
+failureWord Reading = 114 ∷ 101 ∷ 97 ∷ 100 ∷ 105 ∷ 110 ∷ 103 ∷ []
+failureWord Writing = 119 ∷ 114 ∷ 105 ∷ 116 ∷ 105 ∷ 110 ∷ 103 ∷ []
+
+-- shelfcheck: reading failed at line N
+abbrev pub failureOf : Failure → List ℕ
+failureOf failure =
+    115 ∷ 104 ∷ 101 ∷ 108 ∷ 102 ∷ 99 ∷ 104 ∷ 101 ∷ 99 ∷ 107 ∷ 58 ∷ 32
+    ∷ (failureWord failure ++ (32 ∷ 102 ∷ 97 ∷ 105 ∷ 108 ∷ 101 ∷ 100 ∷ 32 ∷ 97 ∷ 116 ∷ 32 ∷ 108 ∷ 105 ∷ 110 ∷ 101 ∷ 32 ∷ []))
+
+abbrev pub failureText : Failure → ℕ → List ℕ
+failureText failure number = failureOf failure ++ (decimal number ++ (10 ∷ []))

@@ -1,11 +1,11 @@
-// The text of a report line, written into a lent buffer.
+// The text of a report line, and of a failure, written into a lent buffer.
 ghost use mathlib.Core.Path.{_≡_};
 ghost use mathlib.Core.List.{[], _∷_};
 ghost use Prim.Native.Nat.{_+_, _≤_};
 ghost use lib.ListN.{length};
 ghost use Rattle.verdict.specs.Writing.{put};
-ghost use Rattle.text.specs.Text.{letterOf, wordOf, firstOf, secondOf, decimal, headOf, tailOf, textOf};
-ghost use Rattle.text.specs.Writing.{room, WrittenLine};
+ghost use Rattle.text.specs.Text.{letterOf, wordOf, firstOf, secondOf, decimal, headOf, tailOf, textOf, failureOf, failureText};
+ghost use Rattle.text.specs.Writing.{room, WrittenLine, WrittenText};
 use frame::Answer;
 use frame::Kind;
 use frame::Outcome;
@@ -200,5 +200,46 @@ pub fn write_line(number: u64, answer: Answer, out: &mut [u8], place: usize) -> 
         });
     }
     put_line(number, answer, out, place);
+    Verdict::Complete(length)
+}
+
+// What failed: reading the input, or writing the report.
+pub enum Failure {
+    Reading,
+    Writing,
+}
+
+fn put_failure(out: &mut [u8], failure: Failure) -> usize
+    requires { ⌜ 35 ≤ length (now out) ⌝ }
+    ensures { λ r. ⌜ (r ≡ 35) × (now (out .exit) ≡ put (now (out .entry)) 0 (failureOf failure)) ⌝ }
+{
+    match failure {
+        Failure::Reading => put_bytes(out, 0, b"shelfcheck: reading failed at line "),
+        Failure::Writing => put_bytes(out, 0, b"shelfcheck: writing failed at line "),
+    }
+}
+
+// A failure at a line, where it has room.
+fn put_failure_line(out: &mut [u8], failure: Failure, number: u64)
+    requires { ⌜ 36 + length (decimal number) ≤ length (now out) ⌝ }
+    ensures { λ _. ⌜ now (out .exit) ≡ put (now (out .entry)) 0 (failureText failure number) ⌝ }
+{
+    let behind_words = put_failure(out, failure);
+    let end = put_decimal(out, behind_words, number);
+    out[end] = 10;
+}
+
+// Writes a failure at a line to the front: the count of its bytes, or 13 where it has no room.
+pub fn write_failure(failure: Failure, number: u64, out: &mut [u8]) -> Verdict
+    ensures { λ r. ⌜ WrittenText (failureText failure number) (now (out .entry)) 0 r (now (out .exit)) ⌝ }
+{
+    let length = 36 + digit_count(number);
+    if out.len() < length {
+        return Verdict::Refused(Refusal {
+            reason: Reason::SmallBuffer,
+            place: 0,
+        });
+    }
+    put_failure_line(out, failure, number);
     Verdict::Complete(length)
 }

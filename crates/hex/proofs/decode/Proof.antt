@@ -1,33 +1,38 @@
 -- `hex::decode` meets its contract. Assumes nothing.
-use mathlib.Core.Path.{sym, _∙_}
-use native.Mathlib.Omega.{arith}
+use mathlib.Core.Path.{_≡_, sym, _∙_}
+use mathlib.Core.Bool.{true}
 use borrow.Author.Needs.{needs}
+use borrow.Author.Tests.{not-true, not-false}
 use denote.Ref.{now}
-use Rattle.hex.proofs.DigitPairs.{decoded-small, decoded-none, decoded-all}
+use Rattle.hex.specs.Hex.{isHex}
+use Rattle.hex.proofs.DigitPairs.{decoded-none, decoded-small, decoded-all}
 use Rattle.hex.proofs.decode.Statement.{statement}
 use Rattle.hex.proofs.decode.Tie as tie
 
-returns : tie.Need-returns
-returns c = decoded-small _ _ (omega arith)
+-- behind the first test the text is pairs of digits
+pairs : (c : tie.Else1) → isHex (now (c .before .before .before .before .args .text)) ≡ true
+pairs c = sym (c .before .is-hex .ensures) ∙ not-false _ (c .if1 .left)
 
 is-hex-requires : tie.Need-is-hex-requires
 is-hex-requires c κs = search needs
 
+returns : tie.Need-returns
+returns c = decoded-none _ _ (sym (c .before .is-hex .ensures) ∙ not-true _ (c .if1 .taken))
+
+returns-2 : tie.Need-returns-2
+returns-2 c = decoded-small _ _ (pairs (c .before)) (c .if2 .taken)
+
 spell-requires : tie.Need-spell-requires
-spell-requires c κs = (sym (c .before .before .is-hex .ensures) ∙ c .before .if2 .taken, omega arith)
+spell-requires c κs = (pairs (c .before .before), c .before .if2 .left)
 
 same-length : tie.Need-same-length
 same-length c = search needs
 
-returns-2 : tie.Need-returns-2
-returns-2 c =
+returns-3 : tie.Need-returns-3
+returns-3 c =
     let s = c .before .before in
     let h = s .before .before in
-    let a = h .before .before .before .before .before .args in
-    decoded-all (now (a .text)) (now (a .out)) (omega arith) (sym (h .before .is-hex .ensures) ∙ h .if2 .taken) _ (s .spell .ensures)
-
-returns-3 : tie.Need-returns-3
-returns-3 c = decoded-none _ _ (sym (c .before .is-hex .ensures) ∙ c .if2 .left)
+    decoded-all _ _ (pairs (h .before)) (h .if2 .left) _ (s .spell .ensures)
 
 pub decode-spec : {M : Type 1} → statement M
-decode-spec = tie.close (tie.spec returns is-hex-requires spell-requires same-length returns-2 returns-3)
+decode-spec = tie.close (tie.spec is-hex-requires returns returns-2 spell-requires same-length returns-3)

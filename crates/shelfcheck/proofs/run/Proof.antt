@@ -6,16 +6,19 @@ use Rattle.shelfcheck.proofs.run.Statement.{statement}
 use Rattle.shelfcheck.proofs.run.Tie as tie
 
 abbrev Inv-loop : tie.InvT-loop
-Inv-loop chunk₀ line₀ out₀ turn₀ turns₀ chunk line out turn turns = (length chunk ≡ length chunk₀) × ((length line ≡ length line₀) × (length out ≡ length out₀))
+Inv-loop chunk₀ line₀ out₀ work₀ turns₀ chunk line out work turns = (length chunk ≡ length chunk₀) × ((length line ≡ length line₀) × (length out ≡ length out₀))
 
 abbrev μ-loop : tie.MeasureT-loop
-μ-loop chunk₀ line₀ out₀ turn₀ turns₀ chunk line out turn turns = turns
+μ-loop chunk₀ line₀ out₀ work₀ turns₀ chunk line out work turns = turns
 
-start-requires : tie.Need-start-requires Inv-loop μ-loop
-start-requires c κs = search needs
+begin-requires : tie.Need-begin-requires Inv-loop μ-loop
+begin-requires c κs = search needs
 
 loop-holds : tie.Need-loop-holds Inv-loop μ-loop
 loop-holds c = search needs
+
+goes-on-requires : tie.Need-goes-on-requires Inv-loop μ-loop
+goes-on-requires c κs = search needs
 
 take-turn-requires : tie.Need-take-turn-requires Inv-loop μ-loop
 take-turn-requires c κs = search needs
@@ -59,8 +62,9 @@ run-spec =
     (tie.spec
     Inv-loop
     μ-loop
-    start-requires
+    begin-requires
     loop-holds
+    goes-on-requires
     take-turn-requires
     sub-turns
     loop-less

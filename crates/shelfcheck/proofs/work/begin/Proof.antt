@@ -1,0 +1,18 @@
+-- `shelfcheck::work::begin` meets its contract. Assumes nothing.
+use mathlib.Core.Path.{ap}
+use mathlib.Core.Bool.{false}
+use Rattle.report.specs.declared.feed.State.{State}
+use Rattle.shelfcheck.specs.declared.work.Ask.the-variants.{Read}
+use Rattle.shelfcheck.specs.declared.work.Work.{Work}
+use borrow.Author.Needs.{needs}
+use Rattle.shelfcheck.proofs.work.begin.Statement.{statement}
+use Rattle.shelfcheck.proofs.work.begin.Tie as tie
+
+start-requires : tie.Need-start-requires
+start-requires c κs = search needs
+
+returns : tie.Need-returns
+returns c = ap (λ (s : State). record { ask = Read; state = s; number = 1; length = 0; fed = 0; ended = false }) (c .start .ensures)
+
+pub begin-spec : {M : Type 1} → statement M
+begin-spec = tie.close (tie.spec start-requires returns)
