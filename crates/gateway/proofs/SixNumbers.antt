@@ -10,7 +10,8 @@ use Rattle.verdict.specs.declared.Reason.the-variants.{Disagree}
 use Rattle.verdict.specs.Rows.{Blamed}
 use Rattle.verdict.proofs.Judging.{Kept}
 use Rattle.matrix.specs.declared.Fields.{Fields}
-use Rattle.gateway.specs.Listing.{bit, fieldsOf}
+use Rattle.matrix.specs.Spelling.{bit}
+use Rattle.matrix.specs.Listed.{fieldNumbers}
 use Rattle.gateway.specs.Writing.{fieldsGiven, flagsFit, numberRows}
 
 pub too-few : (numbers : List ℕ) → length numbers < 6 → Blamed (numberRows numbers) Disagree
@@ -33,5 +34,5 @@ bit-fits true = refl
 bit-fits false = refl
 
 -- what reading lists, writing is given: the same fields, whatever stands behind them
-pub listed-given : (f : Fields) (more : List ℕ) → (fieldsGiven (fieldsOf f ++ more) ≡ f) × (flagsFit (fieldsOf f ++ more) ≡ true)
+pub listed-given : (f : Fields) (more : List ℕ) → (fieldsGiven (fieldNumbers f ++ more) ≡ f) × (flagsFit (fieldNumbers f ++ more) ≡ true)
 listed-given f more = (rw (bit-given (f .cs), bit-given (f .cf), bit-given (f .sf)) refl, rw (bit-fits (f .cs), bit-fits (f .cf), bit-fits (f .sf)) refl)

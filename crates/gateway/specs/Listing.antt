@@ -1,14 +1,13 @@
 -- What reading answers, as numbers in a lent list: a verdict other than complete first, then 13.
 use Prim.Native.Nat.{ℕ}
 use mathlib.Core.Path.{_≡_}
-use mathlib.Core.Bool.{Bool, cond}
 use mathlib.Core.List.{List, [], _∷_}
 use lib.ListN.{length}
 use lib.Dec.{ltb}
 use Rattle.verdict.specs.declared.Verdict.{Verdict}
-use Rattle.matrix.specs.declared.Fields.{Fields}
 use Rattle.matrixreader.specs.declared.Answer.{Answer}
 use Rattle.matrixreader.specs.declared.Answer.the-variants.{Matrix, Unfinished, Refused}
+use Rattle.matrix.specs.Listed.{fieldNumbers}
 use Rattle.matrix.specs.Machine.{verdictOf as matrixVerdict}
 use Rattle.matrixreader.specs.Reading.{readOf as readMatrix}
 use Rattle.arrayreader.specs.declared.Sizes.{Sizes}
@@ -17,14 +16,6 @@ use Rattle.arrayreader.specs.declared.Answer.the-variants.{Array, Unfinished as
 use Rattle.array.specs.Machine.{verdictOf as arrayVerdict}
 use Rattle.arrayreader.specs.Reading.{readOf as readArray}
 use Rattle.unpack.specs.Unpacking.{saidFor, leftFor}
-
--- yes as 1, no as 0
-abbrev pub bit : Bool → ℕ
-bit flag = cond flag 1 0
-
--- N, Cs, Cf, Clen, Sf, Slen
-abbrev pub fieldsOf : Fields → List ℕ
-fieldsOf f = f .n ∷ bit (f .cs) ∷ bit (f .cf) ∷ f .clen ∷ bit (f .sf) ∷ f .slen ∷ []
 
 -- NDim, eight sizes, E, start
 abbrev pub numbersOf : ℕ → Sizes → ℕ → ℕ → List ℕ
@@ -44,7 +35,7 @@ numbersOf dims sizes element start =
 
 -- the numbers of each answer; where the pack is not complete there are none
 abbrev pub matrixNumbers : Answer → List ℕ
-matrixNumbers (Matrix fields length) = fieldsOf fields
+matrixNumbers (Matrix fields length) = fieldNumbers fields
 matrixNumbers (Unfinished missing) = []
 matrixNumbers (Refused refusal) = []
 

@@ -5,7 +5,8 @@ ghost use Prim.Native.Nat.{_≤_};
 ghost use lib.ListN.{length};
 ghost use Rattle.verdict.specs.declared.Verdict.the-variants.{Complete};
 ghost use Rattle.unpack.specs.Unpacking.{over};
-ghost use Rattle.gateway.specs.Listing.{fieldsOf, numbersOf, ListedBy, FieldsBy, NumbersBy};
+ghost use Rattle.matrix.specs.Listed.{fieldNumbers};
+ghost use Rattle.gateway.specs.Listing.{numbersOf, ListedBy, FieldsBy, NumbersBy};
 use arrayreader::Sizes;
 use matrix::Fields;
 use verdict::Reason;
@@ -20,7 +21,7 @@ fn bit_of(flag: bool) -> usize
 }
 
 fn fields_of(f: Fields) -> [usize; 6]
-    ensures { λ r. ⌜ r ≡ fieldsOf f ⌝ }
+    ensures { λ r. ⌜ r ≡ fieldNumbers f ⌝ }
 {
     [
         f.n,

@@ -4,3 +4,4 @@ pub mod Spelling
 pub mod Pack
 pub mod Table
 pub mod Machine
+pub mod Listed

@@ -3,3 +3,4 @@ pub mod Given
 pub mod Fitting
 pub mod Checking
 pub mod Only
+pub mod Stating

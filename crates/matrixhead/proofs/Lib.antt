@@ -3,3 +3,4 @@ pub mod Sending
 pub mod Beginning
 pub mod Only
 pub mod Judging
+pub mod Stating

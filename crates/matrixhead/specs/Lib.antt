@@ -1,2 +1,3 @@
 pub mod Beginning
 pub mod Judging
+pub mod Stated

@@ -1,2 +1,3 @@
 pub mod Answering
 pub mod Only
+pub mod Stating

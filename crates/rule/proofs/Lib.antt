@@ -4,3 +4,4 @@ pub mod Certain
 pub mod Constants
 pub mod Scales
 pub mod Only
+pub mod Stating

@@ -1,2 +1,4 @@
 pub mod Said
 pub mod Frames
+pub mod Paper
+pub mod Stored

@@ -5,3 +5,4 @@ pub mod Words
 pub mod Gathered
 pub mod Written
 pub mod Only
+pub mod Stating

@@ -1,3 +1,4 @@
 pub mod Digits
 pub mod Bytes
 pub mod Many
+pub mod Stated

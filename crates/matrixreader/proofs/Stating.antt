@@ -1,0 +1,26 @@
+-- What reading a matrix pack states: the verdict, and of a complete pack its fields and its length. Assumes nothing.
+use Prim.Native.Nat.{ℕ}
+use mathlib.Core.Path.{_≡_, refl}
+use mathlib.Core.List.{List, [], _∷_, _++_}
+use Rattle.verdict.specs.declared.Verdict.{Verdict}
+use Rattle.verdict.specs.declared.Verdict.the-variants.{Complete, Unfinished, Refused}
+use Rattle.verdict.specs.Stated.{statedVerdict}
+use Rattle.matrix.specs.Spelling.{meaningOf}
+use Rattle.matrix.specs.Listed.{fieldNumbers}
+use Rattle.matrix.specs.Machine.{verdictOf}
+use Rattle.matrixreader.specs.Reading.{readFor, readOf}
+use Rattle.matrixreader.specs.Stated.{statedAnswer}
+
+-- the numbers of a complete pack
+abbrev pub read-values : List ℕ → Verdict → List ℕ
+read-values bytes (Complete length) = fieldNumbers (meaningOf bytes .fields) ++ (length ∷ [])
+read-values bytes (Unfinished missing) = []
+read-values bytes (Refused refusal) = []
+
+pub answer-states : (bytes : List ℕ) → statedAnswer (readOf bytes) ≡ statedVerdict (verdictOf bytes) (read-values bytes (verdictOf bytes))
+answer-states bytes = by (verdictOf bytes)
+  where
+    by : (v : Verdict) → statedAnswer (readFor bytes v) ≡ statedVerdict v (read-values bytes v)
+    by (Complete length) = refl
+    by (Unfinished missing) = refl
+    by (Refused refusal) = refl

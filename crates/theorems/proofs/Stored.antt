@@ -1,0 +1,46 @@
+-- A sparse pack stores exactly as many coefficients as its bit vector has ones, of the bytes themselves. Assumes nothing.
+use Prim.Native.Nat.{ℕ, _+_, _*_}
+use mathlib.Core.Path.{_≡_, ap, sym, subst, _∙_}
+use mathlib.Core.Bool.{true}
+use mathlib.Core.List.{List, [], _++_, append-nil}
+use lib.ListN.{length, take, drop}
+use lib.Seq.{take-at}
+use Rattle.matrix.specs.declared.Fields.{Fields}
+use Rattle.matrix.specs.Meaning.{Matrix, Lawful, sum}
+use Rattle.matrix.specs.Spelling.{vectorBytes, packed, spelled, bits, fieldsOf, bytesOf, meaningOf}
+use Rattle.matrix.specs.Pack.{MatrixPack}
+use Rattle.matrix.proofs.BitVector.{length-packed}
+use Rattle.matrix.proofs.Decoding.{meaning-back, pack-length}
+use Rattle.unpack.proofs.Stored.{vector-ones}
+use lib.ListN.{replicate}
+
+-- the bytes of a pack that hold the vector
+abbrev pub vectorOf : List ℕ → List ℕ
+vectorOf w = take (vectorBytes (fieldsOf w)) (drop 3 w)
+
+-- how many bits of the vector are 1
+abbrev pub onesIn : List ℕ → ℕ
+onesIn w = sum (bits (vectorOf w))
+
+-- so many coefficients are stored, and the length is what stands before the vector, the vector, N deviations, and those coefficients
+pub record StoredBy (w : List ℕ) (m : Matrix) : Type 0 where
+  pub stored : onesIn w ≡ sum (m .marks)
+  pub counted : length w ≡ 3 + (vectorBytes (fieldsOf w) + (fieldsOf w .n * fieldsOf w .slen + onesIn w * fieldsOf w .clen))
+
+lawful-stored : (m : Matrix) → Lawful m → fieldsOf (bytesOf m) .cs ≡ true → StoredBy (bytesOf m) m
+lawful-stored m g sparse =
+    let f = m .fields in
+    let same : fieldsOf (bytesOf m) ≡ m .fields = ap (λ (w : List ℕ). fieldsOf w) (sym (append-nil (bytesOf m))) ∙ ap (λ (k : Matrix). k .fields) (meaning-back m g []) in
+    let vector : vectorOf (bytesOf m) ≡ packed (vectorBytes f) (m .marks) =
+    ap (λ (k : Fields). take (vectorBytes k) (drop 3 (bytesOf m))) same
+    ∙ take-at (packed (vectorBytes f) (m .marks)) (spelled (f .slen) (replicate (f .n) 1) (m .deviations) ++ spelled (f .clen) (m .marks) (m .coefficients)) (vectorBytes f) (length-packed (vectorBytes f) (m .marks)) in
+    let stored : onesIn (bytesOf m) ≡ sum (m .marks) = ap (λ (v : List ℕ). sum (bits v)) vector ∙ vector-ones m g (subst (λ (k : Fields). k .cs ≡ true) same sparse) in
+    record {
+      stored = stored;
+      counted =
+          subst (λ (k : Fields). length (bytesOf m) ≡ 3 + (vectorBytes k + (k .n * k .slen + onesIn (bytesOf m) * k .clen))) (sym same)
+          (pack-length m ∙ ap (λ (sent : ℕ). 3 + (vectorBytes f + (f .n * f .slen + sent * f .clen))) (sym stored));
+    }
+
+pub sparse-stored : (w : List ℕ) (p : MatrixPack w) → fieldsOf w .cs ≡ true → StoredBy w (p .meaning)
+sparse-stored w p sparse = subst (λ (x : List ℕ). StoredBy x (p .meaning)) (p .spelled) (lawful-stored (p .meaning) (p .lawful) (subst (λ (x : List ℕ). fieldsOf x .cs ≡ true) (sym (p .spelled)) sparse))
