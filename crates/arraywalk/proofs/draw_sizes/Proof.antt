@@ -1,6 +1,6 @@
 -- `arraywalk::draw_sizes` meets its contract. The loop's invariant: so many sizes were drawn. The measure is how many are left. Assumes nothing.
 use Prim.Native.Nat.{_-_, _/_, _≤_}
-use mathlib.Core.Path.{_≡_, sym, _∙_}
+use mathlib.Core.Path.{_≡_, sym, ap, _∙_}
 use mathlib.Core.Bool.{true}
 use native.Mathlib.Numerals.{add-one}
 use native.Mathlib.Omega.{arith}
@@ -9,6 +9,7 @@ use borrow.Author.Needs.{needs}
 use Rattle.verdict.specs.Says.{Bytes}
 use Rattle.number.specs.declared.Drawn.{Drawn}
 use Rattle.number.specs.Draw.{drawAt}
+use Rattle.number.proofs.Drawing.{limit-behind}
 use Rattle.array.specs.Meaning.{most}
 use Rattle.arraywalk.specs.Walk.{SizedTo}
 use Rattle.arraywalk.proofs.Walking.{sizes-none, size-limited, size-drawn, size-cut, size-refused}
@@ -26,9 +27,12 @@ bytes-there c = λ i. c .shared-slice-known .given i .fits
 
 -- the case that was met is what drawing finds
 drawn-is :
-    (c : tie.After-draw-behind Inv-loop μ-loop) (d : Drawn) → c .draw-behind .result ≡ d
-    → let l = c .before .before .loop in d ≡ drawAt (now (c .before .before .before .before .args .bytes)) (l .sized .place) true (most / l .sized .product)
-drawn-is c d e = sym e ∙ c .draw-behind .ensures
+    (c : tie.After-draw-from Inv-loop μ-loop) (d : Drawn) → c .draw-from .result ≡ d
+    → let l = c .before .before .before .loop in d ≡ drawAt (now (c .before .before .before .before .before .args .bytes)) (l .sized .place) true (most / l .sized .product)
+drawn-is c d e =
+    let p = c .before .before .before in
+    let l = p .loop in
+    sym e ∙ c .draw-from .ensures ∙ ap (drawAt (now (p .before .before .args .bytes)) (l .sized .place) true) (limit-behind most (l .sized .product) (l .inv .0 .least))
 
 loop-holds : tie.Need-loop-holds Inv-loop μ-loop
 loop-holds c =
@@ -36,17 +40,20 @@ loop-holds c =
     let a = s .args in
     (sizes-none (now (a .bytes)) (bytes-there c) (a .dims) (a .place) (s .pre), omega arith)
 
-draw-behind-requires : tie.Need-draw-behind-requires Inv-loop μ-loop
-draw-behind-requires c κs = let z = c .before .loop .inv .0 in (z .least, z .limited)
+cast-draw-from : tie.Need-cast-draw-from Inv-loop μ-loop
+cast-draw-from c = omega (arith, c .before .before .loop .inv .0 .limited)
+
+draw-from-requires : tie.Need-draw-from-requires Inv-loop μ-loop
+draw-from-requires c κs = search needs
 
 enum-known-drawn : tie.Need-enum-known-drawn Inv-loop μ-loop
 enum-known-drawn c = search needs
 
-mul-t12 : tie.Need-mul-t12 Inv-loop μ-loop
-mul-t12 c =
+mul-t13 : tie.Need-mul-t13 Inv-loop μ-loop
+mul-t13 c =
     let d = c .before .before in
     let w = d .before .before in
-    let p = w .before .before in
+    let p = w .before .before .before in
     let a = p .before .before .args in
     omega (arith, size-limited (now (a .bytes)) (bytes-there (p .before)) (a .dims) (p .loop .count) (p .loop .sized) (p .loop .inv .0) (d .drawn .given .0 .0) (d .drawn .given .0 .1 .0) (drawn-is w _ (d .drawn .given .1)))
 
@@ -60,28 +67,28 @@ loop-again : tie.Need-loop-again Inv-loop μ-loop
 loop-again c =
     let d = c .before .before in
     let w = d .before .before in
-    let p = w .before .before in
+    let p = w .before .before .before in
     let a = p .before .before .args in (
       rw (add-one (p .loop .count))
-          (size-drawn (now (a .bytes)) (bytes-there (p .before)) (a .dims) (p .loop .count) (p .loop .sized) (p .loop .inv .0) (d .drawn .given .0 .0) (d .drawn .given .0 .1 .0) (drawn-is w _ (d .drawn .given .1)) (w .before .loop-test .taken)),
+          (size-drawn (now (a .bytes)) (bytes-there (p .before)) (a .dims) (p .loop .count) (p .loop .sized) (p .loop .inv .0) (d .drawn .given .0 .0) (d .drawn .given .0 .1 .0) (drawn-is w _ (d .drawn .given .1)) (w .before .before .loop-test .taken)),
       omega arith,
     )
 
 enum-told : tie.Need-enum-told Inv-loop μ-loop
 enum-told c = search needs
 
-sub-t13 : tie.Need-sub-t13 Inv-loop μ-loop
-sub-t13 c = search needs
+sub-t14 : tie.Need-sub-t14 Inv-loop μ-loop
+sub-t14 c = search needs
 
-add-t14 : tie.Need-add-t14 Inv-loop μ-loop
-add-t14 c = omega (arith, c .before .before .before .before .loop .inv .0 .few)
+add-t15 : tie.Need-add-t15 Inv-loop μ-loop
+add-t15 c = omega (arith, c .before .before .before .before .before .loop .inv .0 .few)
 
 returns : tie.Need-returns Inv-loop μ-loop
 returns c =
     let w = c .before .before in
-    let p = w .before .before in
+    let p = w .before .before .before in
     let a = p .before .before .args in
-    size-cut (now (a .bytes)) (bytes-there (p .before)) (a .dims) (p .loop .count) (p .loop .sized) (p .loop .inv .0) (w .before .loop-test .taken) (c .enum-told .given .0 .0) (drawn-is w _ (c .enum-told .given .1))
+    size-cut (now (a .bytes)) (bytes-there (p .before)) (a .dims) (p .loop .count) (p .loop .sized) (p .loop .inv .0) (w .before .before .loop-test .taken) (c .enum-told .given .0 .0) (drawn-is w _ (c .enum-told .given .1))
 
 enum-known-drawn-2 : tie.Need-enum-known-drawn-2 Inv-loop μ-loop
 enum-known-drawn-2 c = search needs
@@ -90,9 +97,9 @@ returns-2 : tie.Need-returns-2 Inv-loop μ-loop
 returns-2 c =
     let d = c .before in
     let w = d .before .before in
-    let p = w .before .before in
+    let p = w .before .before .before in
     let a = p .before .before .args in
-    size-refused (now (a .bytes)) (bytes-there (p .before)) (a .dims) (p .loop .count) (p .loop .sized) (p .loop .inv .0) (w .before .loop-test .taken) (d .drawn2 .given .0 .0) (drawn-is w _ (d .drawn2 .given .1))
+    size-refused (now (a .bytes)) (bytes-there (p .before)) (a .dims) (p .loop .count) (p .loop .sized) (p .loop .inv .0) (w .before .before .loop-test .taken) (d .drawn2 .given .0 .0) (drawn-is w _ (d .drawn2 .given .1))
 
 returns-3 : tie.Need-returns-3 Inv-loop μ-loop
 returns-3 c =
@@ -108,15 +115,16 @@ draw-sizes-spec =
     Inv-loop
     μ-loop
     loop-holds
-    draw-behind-requires
+    cast-draw-from
+    draw-from-requires
     enum-known-drawn
-    mul-t12
+    mul-t13
     add-count
     loop-less
     loop-again
     enum-told
-    sub-t13
-    add-t14
+    sub-t14
+    add-t15
     returns
     enum-known-drawn-2
     returns-2
