@@ -1,12 +1,15 @@
 // One pass over the numbers of an array pack: what was found of a whole one, or why there is none. The array itself is not looked at.
 ghost use mathlib.Core.Path.{_≡_};
 ghost use mathlib.Core.Logic.{_≢_};
-ghost use Prim.Native.Nat.{ℕ};
+ghost use Prim.Native.Nat.{ℕ, _≤_};
 ghost use Rattle.verdict.specs.Machine.{bad};
+ghost use Rattle.verdict.specs.Says.{Bytes};
 ghost use Rattle.array.specs.Table.{number, processing, move};
-ghost use Rattle.arraywalk.specs.Walk.{DimsTo, SizedTo, SizingFrom, ElementTo, ProcessedTo, HeadingFrom, WalkFrom, walkedOf};
+ghost use Rattle.arraywalk.specs.Walk.{Takes, progressBehind, sizingOf, DimsTo, SizedTo, SizingFrom, ElementTo, ProcessedTo, HeadingFrom, WalkFrom, walkedOf};
 use number::Drawn;
+use number::draw;
 use number::draw_from;
+use number::numbers_at;
 use verdict::Reason;
 use verdict::Refusal;
 
@@ -27,7 +30,14 @@ pub enum Walked {
     Refused(Refusal),
 }
 
-// Some sizes drawn: the place behind them, their product.
+// How far the drawing of the sizes is: those left, the product of those drawn, and whether another is to be drawn.
+pub(crate) struct Progress {
+    pub left: usize,
+    pub product: u32,
+    pub more: bool,
+}
+
+// The sizes drawn: the place behind them, their product.
 pub(crate) struct Sized {
     pub place: usize,
     pub product: usize,
@@ -51,32 +61,64 @@ pub(crate) enum Heading {
     Refused(Refusal),
 }
 
-// The sizes behind NDim, which ends at `place`.
+// What was drawn in the place of a size is taken.
+fn take_size(progress: Progress, drawn: Drawn) -> Progress
+    requires { ⌜ Takes progress drawn ⌝ }
+    ensures { λ r. ⌜ r ≡ progressBehind progress drawn ⌝ }
+{
+    match drawn {
+        Drawn::Number { value, next: _ } => Progress {
+            left: progress.left - 1,
+            product: progress.product * value as u32,
+            more: 1 < progress.left,
+        },
+        Drawn::Cut(_) => Progress {
+            left: progress.left,
+            product: progress.product,
+            more: false,
+        },
+        Drawn::Refused(_) => Progress {
+            left: progress.left,
+            product: progress.product,
+            more: false,
+        },
+    }
+}
+
+// All sizes drawn, up to a place, or the verdict in what was drawn last.
+fn sizing_of(progress: Progress, place: usize, drawn: Drawn) -> Sizing
+    requires { ⌜ progress .left ≤ 8 ⌝ }
+    ensures { λ r. ⌜ r ≡ sizingOf progress place drawn ⌝ }
+{
+    if progress.left == 0 {
+        return Sizing::To(Sized {
+            place,
+            product: progress.product as usize,
+        });
+    }
+    match drawn {
+        Drawn::Number { value: _, next: _ } => Sizing::Unfinished(progress.left + 2),
+        Drawn::Cut(_) => Sizing::Unfinished(progress.left + 2),
+        Drawn::Refused(refusal) => Sizing::Refused(refusal),
+    }
+}
+
+// The sizes behind NDim, which ends at `place`, drawn one after the other by a reader that keeps its place.
 fn draw_sizes(bytes: &[u8], dims: usize, place: usize) -> Sizing
-    requires { ⌜ DimsTo (now bytes) dims place ⌝ }
+    requires { ⌜ Bytes (now bytes) × DimsTo (now bytes) dims place ⌝ }
     ensures { λ r. ⌜ SizingFrom (now (bytes .entry)) dims r ⌝ }
 {
-    let mut sized = Sized { place, product: 1 };
-    let mut count = 0;
-    while count < dims {
-        let drawn = draw_from(bytes, sized.place, true, MOST, sized.product as u32);
-        match drawn {
-            Drawn::Number { value, next } => {
-                sized = Sized {
-                    place: next,
-                    product: sized.product * value as usize,
-                };
-                count += 1;
-            }
-            Drawn::Cut(_) => {
-                return Sizing::Unfinished(dims - count + 2);
-            }
-            Drawn::Refused(refusal) => {
-                return Sizing::Refused(refusal);
-            }
-        }
+    let mut numbers = numbers_at(bytes, place);
+    let mut progress = Progress {
+        left: dims,
+        product: 1,
+        more: true,
+    };
+    while progress.more {
+        numbers = draw(numbers, true, MOST, progress.product);
+        progress = take_size(progress, numbers.drawn);
     }
-    Sizing::To(sized)
+    sizing_of(progress, numbers.place, numbers.drawn)
 }
 
 // Why an octet that is not 1 is refused as processing.

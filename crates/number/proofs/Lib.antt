@@ -3,4 +3,5 @@ pub mod Drawing
 pub mod Octets
 pub mod Counts
 pub mod Front
+pub mod Walks
 pub mod Only
