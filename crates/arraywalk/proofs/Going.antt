@@ -4,7 +4,7 @@ use mathlib.Core.Path.{_≡_, refl, sym, ap, _∙_, subst}
 use mathlib.Core.Bool.{Bool, true, false, cond}
 use mathlib.Core.List.{List}
 use native.Mathlib.Omega.{arith}
-use borrow.Author.Tests.{eq-eqb, ne-eqb, ltb-true, ltb-false}
+use borrow.Author.Tests.{ltb-true, ltb-false}
 use lib.Dec.{ltb}
 use Rattle.verdict.specs.declared.Verdict.the-variants.{Unfinished}
 use Rattle.verdict.specs.Says.{Bytes}
@@ -64,13 +64,13 @@ module _ (bytes : List ℕ) (b : Bytes bytes) (total place : ℕ) where
         claim (ltb 1 (progress .left))
         (λ t. let l = ltb-true 1 (progress .left) t in let k : suc count ≡ total - (progress .left - 1) = omega (arith, z .within) in
         record { sizes = subst (λ (n : ℕ). SizedTo bytes total n behind) k s; some = omega (arith, l); within = omega (arith, z .within) })
-        (λ t. let l = ltb-false 1 (progress .left) t in let none : progress .left - 1 ≡ 0 = omega (arith, l) in let k : suc count ≡ total = omega (arith, l, z .some, z .within) in
-        record { few = omega (arith, l); answer = rw (eq-eqb (progress .left - 1) 0 none) (subst (λ (n : ℕ). SizedTo bytes total n behind) k s) })
+        (λ t. let l = ltb-false 1 (progress .left) t in let k : suc count ≡ total = omega (arith, l, z .some, z .within) in
+        record { few = omega (arith, l); answer = subst (λ (n : ℕ). SizedTo bytes total n behind) k s })
     stands-behind (Cut value) e =
         let k : total - count ≡ progress .left = omega (arith, z .within) in
-        record { few = omega (arith, z .within, z .sizes .few); answer = rw (ne-eqb (progress .left) 0 (λ n. omega (arith, z .some))) (size-cut bytes b total count sized (z .sizes) inside value e ∙ ap (λ (n : ℕ). Unfinished (n + 2)) k) }
+        record { few = omega (arith, z .within, z .sizes .few); answer = size-cut bytes b total count sized (z .sizes) inside value e ∙ ap (λ (n : ℕ). Unfinished (n + 2)) k }
     stands-behind (DrawnRefused refusal) e =
-        record { few = omega (arith, z .within, z .sizes .few); answer = rw (ne-eqb (progress .left) 0 (λ n. omega (arith, z .some))) (size-refused bytes b total count sized (z .sizes) inside refusal e) }
+        record { few = omega (arith, z .within, z .sizes .few); answer = size-refused bytes b total count sized (z .sizes) inside refusal e }
 
     -- and then the drawing stands behind it
     pub going-next : (drawn : Drawn) → drawn ≡ drawAt bytes place true (limitBehind most (progress .product)) → Stands bytes total (placeBehind drawn place) drawn (progressBehind progress drawn)

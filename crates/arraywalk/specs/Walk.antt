@@ -4,7 +4,7 @@ use mathlib.Core.Path.{_≡_}
 use mathlib.Core.Bool.{cond, false}
 use mathlib.Core.List.{List}
 use lib.ListN.{length, drop}
-use lib.Dec.{eqb, ltb}
+use lib.Dec.{ltb}
 use Rattle.verdict.specs.declared.Verdict.{Verdict}
 use Rattle.verdict.specs.declared.Verdict.the-variants.{Complete, Unfinished, Refused}
 use Rattle.number.specs.declared.Drawn.{Drawn}
@@ -66,14 +66,11 @@ progressBehind progress (Number value next) = record { left = progress .left - 1
 progressBehind progress (Cut value) = record { left = progress .left; product = progress .product; more = false }
 progressBehind progress (DrawnRefused refusal) = record { left = progress .left; product = progress .product; more = false }
 
--- what ends the drawing before its last size
-abbrev pub stoppedBy : ℕ → Drawn → Sizing
-stoppedBy left (Number value next) = SizingUnfinished (left + 2)
-stoppedBy left (Cut value) = SizingUnfinished (left + 2)
-stoppedBy left (DrawnRefused refusal) = SizingRefused refusal
-
+-- what was drawn last ends the sizes: it is the last of them, up to a place, or the verdict
 abbrev pub sizingOf : Progress → ℕ → Drawn → Sizing
-sizingOf progress place drawn = cond (eqb (progress .left) 0) (To (record { place = place; product = progress .product })) (stoppedBy (progress .left) drawn)
+sizingOf progress place (Number value next) = To (record { place = place; product = progress .product })
+sizingOf progress place (Cut value) = SizingUnfinished (progress .left + 2)
+sizingOf progress place (DrawnRefused refusal) = SizingRefused refusal
 
 -- sizes are still to be drawn at a place
 pub record Going (bytes : List ℕ) (dims place : ℕ) (progress : Progress) : Type 0 where

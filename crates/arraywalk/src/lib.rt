@@ -90,14 +90,11 @@ fn sizing_of(progress: Progress, place: usize, drawn: Drawn) -> Sizing
     requires { ⌜ progress .left ≤ 8 ⌝ }
     ensures { λ r. ⌜ r ≡ sizingOf progress place drawn ⌝ }
 {
-    if progress.left == 0 {
-        return Sizing::To(Sized {
+    match drawn {
+        Drawn::Number { value: _, next: _ } => Sizing::To(Sized {
             place,
             product: progress.product as usize,
-        });
-    }
-    match drawn {
-        Drawn::Number { value: _, next: _ } => Sizing::Unfinished(progress.left + 2),
+        }),
         Drawn::Cut(_) => Sizing::Unfinished(progress.left + 2),
         Drawn::Refused(refusal) => Sizing::Refused(refusal),
     }
