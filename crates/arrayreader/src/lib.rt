@@ -15,7 +15,7 @@ use verdict::Refusal;
 use verdict::Verdict;
 
 // The greatest size.
-const MOST: u64 = 32768;
+const MOST: u32 = 32768;
 
 // The place behind NDim, which is one octet.
 const SIZES: usize = 1;
@@ -81,7 +81,7 @@ fn size_at(bytes: &[u8], place: usize, count: usize, dims: usize) -> Size
             next: place,
         };
     }
-    let drawn = draw_from(bytes, place, true, MOST);
+    let drawn = draw_from(bytes, place, true, MOST, 1);
     match drawn {
         Drawn::Number { value, next } => Size {
             value: value as usize,

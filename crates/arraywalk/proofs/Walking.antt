@@ -52,13 +52,6 @@ processing-large total octet not-zero not-one not-padding =
     (λ t. rw (t, ended-large true 1 (0 * 128 + octet) (omega arith)))
     (λ t. rw (t, gone-large 1 (0 * 128 + (octet - 128)) (omega (arith, ltb-false octet 128 t))))
 
--- an octet that ends its number and keeps the limit behind a product is drawn
-pub short-drawn : (bytes : List ℕ) (place : ℕ) (positive : Bool) (p octet : ℕ) → 1 ≤ p → place < length bytes → octet ≡ getD bytes place 0 → octet < 128 → p * octet ≤ most → (positive ≡ true → 0 < octet)
-    → Number octet (place + 1) ≡ drawAt bytes place positive (most / p)
-short-drawn bytes place positive p octet least h e l m c =
-    let k : octet ≤ most / p = le-div-iff-mul-le {k = p} {x = octet} {y = most} least .1 (omega (arith, mul-comm octet p)) in
-    sym (draw-octet bytes place 0 positive (most / p) h (Ends (0 * 128 + octet)) (sym (rw (← e) (effect-ends octet 0 positive (most / p) l (λ q. omega (arith, c q)) (omega (arith, k))))) ∙ ap (λ (v : ℕ). Number v (place + 1)) (omega arith))
-
 module _ (bytes : List ℕ) (b : Bytes bytes) where
   -- ---- NDim
 

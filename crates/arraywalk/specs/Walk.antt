@@ -1,13 +1,16 @@
 -- What each part of the reader promises: what it drew stands in the bytes, and its answer is the run's.
 use Prim.Native.Nat.{ℕ, suc, _+_, _-_, _*_, _≤_}
 use mathlib.Core.Path.{_≡_}
-use mathlib.Core.Bool.{cond}
+use mathlib.Core.Bool.{cond, false}
 use mathlib.Core.List.{List}
 use lib.ListN.{length, drop}
 use lib.Dec.{ltb}
 use Rattle.verdict.specs.declared.Verdict.{Verdict}
 use Rattle.verdict.specs.declared.Verdict.the-variants.{Complete, Unfinished, Refused}
+use Rattle.number.specs.declared.Drawn.{Drawn}
+use Rattle.number.specs.declared.Drawn.the-variants.{Number, Cut, Refused as DrawnRefused}
 use Rattle.number.specs.Front.{front}
+use Rattle.arraywalk.specs.declared.Progress.{Progress}
 use Rattle.arraywalk.specs.declared.Sized.{Sized}
 use Rattle.arraywalk.specs.declared.Sizing.{Sizing}
 use Rattle.arraywalk.specs.declared.Sizing.the-variants.{To, Unfinished as SizingUnfinished, Refused as SizingRefused}
@@ -50,6 +53,39 @@ abbrev pub SizingFrom : List ℕ → ℕ → Sizing → Type 0
 SizingFrom bytes dims (To sized) = SizedTo bytes dims dims sized
 SizingFrom bytes dims (SizingUnfinished missing) = verdictOf bytes ≡ Unfinished missing
 SizingFrom bytes dims (SizingRefused refusal) = verdictOf bytes ≡ Refused refusal
+
+-- what was drawn in the place of a size may be taken: a number keeps the limit of the product
+pub record Takes (progress : Progress) (drawn : Drawn) : Type 0 where
+  pub some : 1 ≤ progress .left
+  pub least : 1 ≤ progress .product
+  pub limited : (value next : ℕ) → drawn ≡ Number value next → progress .product * value ≤ most
+
+-- one size less is left behind a number; nothing more is drawn behind anything else
+abbrev pub progressBehind : Progress → Drawn → Progress
+progressBehind progress (Number value next) = record { left = progress .left - 1; product = progress .product * value; more = ltb 1 (progress .left) }
+progressBehind progress (Cut value) = record { left = progress .left; product = progress .product; more = false }
+progressBehind progress (DrawnRefused refusal) = record { left = progress .left; product = progress .product; more = false }
+
+-- what was drawn last ends the sizes: it is the last of them, up to a place, or the verdict
+abbrev pub sizingOf : Progress → ℕ → Drawn → Sizing
+sizingOf progress place (Number value next) = To (record { place = place; product = progress .product })
+sizingOf progress place (Cut value) = SizingUnfinished (progress .left + 2)
+sizingOf progress place (DrawnRefused refusal) = SizingRefused refusal
+
+-- sizes are still to be drawn at a place
+pub record Going (bytes : List ℕ) (dims place : ℕ) (progress : Progress) : Type 0 where
+  pub sizes : SizedTo bytes dims (dims - progress .left) (record { place = place; product = progress .product })
+  pub some : 1 ≤ progress .left
+  pub within : progress .left ≤ dims
+
+-- nothing more is to be drawn
+pub record Gone (bytes : List ℕ) (dims place : ℕ) (drawn : Drawn) (progress : Progress) : Type 0 where
+  pub few : progress .left ≤ 8
+  pub answer : SizingFrom bytes dims (sizingOf progress place drawn)
+
+-- how far the drawing of the sizes is, at the reader's place and with what it drew last
+abbrev pub Stands : List ℕ → ℕ → ℕ → Drawn → Progress → Type 0
+Stands bytes dims place drawn progress = cond (progress .more) (Going bytes dims place progress) (Gone bytes dims place drawn progress)
 
 -- all sizes and E were drawn, E up to a place
 pub record ElementTo (bytes : List ℕ) (dims : ℕ) (sized : Sized) (each place : ℕ) : Type 0 where

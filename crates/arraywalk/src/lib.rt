@@ -1,21 +1,20 @@
 // One pass over the numbers of an array pack: what was found of a whole one, or why there is none. The array itself is not looked at.
 ghost use mathlib.Core.Path.{_≡_};
 ghost use mathlib.Core.Logic.{_≢_};
-ghost use Prim.Native.Nat.{ℕ, _+_, _/_, _≤_, _<_};
-ghost use lib.ListN.{length};
+ghost use Prim.Native.Nat.{ℕ, _≤_};
 ghost use Rattle.verdict.specs.Machine.{bad};
-ghost use Rattle.number.specs.Draw.{drawAt};
-ghost use Rattle.number.specs.declared.Drawn.the-variants.{Number};
-ghost use Rattle.array.specs.Meaning.{most};
+ghost use Rattle.verdict.specs.Says.{Bytes};
 ghost use Rattle.array.specs.Table.{number, processing, move};
-ghost use Rattle.arraywalk.specs.Walk.{DimsTo, SizedTo, SizingFrom, ElementTo, ProcessedTo, HeadingFrom, WalkFrom, walkedOf};
+ghost use Rattle.arraywalk.specs.Walk.{Takes, progressBehind, sizingOf, DimsTo, SizedTo, SizingFrom, ElementTo, ProcessedTo, HeadingFrom, WalkFrom, walkedOf};
 use number::Drawn;
+use number::draw;
 use number::draw_from;
+use number::numbers_at;
 use verdict::Reason;
 use verdict::Refusal;
 
 // The greatest product of sizes, and of sizes and E.
-const MOST: usize = 32768;
+const MOST: u32 = 32768;
 
 // A whole pack: NDim, E, the place of the array's first byte, the length.
 pub struct Found {
@@ -31,7 +30,14 @@ pub enum Walked {
     Refused(Refusal),
 }
 
-// Some sizes drawn: the place behind them, their product.
+// How far the drawing of the sizes is: those left, the product of those drawn, and whether another is to be drawn.
+pub(crate) struct Progress {
+    pub left: usize,
+    pub product: u32,
+    pub more: bool,
+}
+
+// The sizes drawn: the place behind them, their product.
 pub(crate) struct Sized {
     pub place: usize,
     pub product: usize,
@@ -55,82 +61,61 @@ pub(crate) enum Heading {
     Refused(Refusal),
 }
 
-// A number of one octet that keeps the limit behind a product, which takes no division; 128 where there is none.
-fn short(bytes: &[u8], place: usize, positive: bool, product: usize) -> usize
-    requires { ⌜ (1 ≤ product) × (product ≤ most) ⌝ }
-    ensures { λ r. ⌜ (r < 128 → (place < length (now (bytes .entry))) × (Number r (place + 1) ≡ drawAt (now (bytes .entry)) place positive (most / product))) ⌝ }
+// What was drawn in the place of a size is taken.
+fn take_size(progress: Progress, drawn: Drawn) -> Progress
+    requires { ⌜ Takes progress drawn ⌝ }
+    ensures { λ r. ⌜ r ≡ progressBehind progress drawn ⌝ }
 {
-    if bytes.len() <= place {
-        return 128;
+    match drawn {
+        Drawn::Number { value, next: _ } => Progress {
+            left: progress.left - 1,
+            product: progress.product * value as u32,
+            more: 1 < progress.left,
+        },
+        Drawn::Cut(_) => Progress {
+            left: progress.left,
+            product: progress.product,
+            more: false,
+        },
+        Drawn::Refused(_) => Progress {
+            left: progress.left,
+            product: progress.product,
+            more: false,
+        },
     }
-    let octet = bytes[place] as usize;
-    if 128 <= octet {
-        return 128;
-    }
-    if MOST < product * octet {
-        return 128;
-    }
-    if 0 < octet {
-        return octet;
-    }
-    if positive {
-        return 128;
-    }
-    octet
 }
 
-// How great a number may be behind a product; the first takes no division.
-fn limit_behind(product: usize) -> usize
-    requires { ⌜ 1 ≤ product ⌝ }
-    ensures { λ r. ⌜ r ≡ most / product ⌝ }
+// All sizes drawn, up to a place, or the verdict in what was drawn last.
+fn sizing_of(progress: Progress, place: usize, drawn: Drawn) -> Sizing
+    requires { ⌜ progress .left ≤ 8 ⌝ }
+    ensures { λ r. ⌜ r ≡ sizingOf progress place drawn ⌝ }
 {
-    if product == 1 {
-        return MOST;
+    match drawn {
+        Drawn::Number { value: _, next: _ } => Sizing::To(Sized {
+            place,
+            product: progress.product as usize,
+        }),
+        Drawn::Cut(_) => Sizing::Unfinished(progress.left + 2),
+        Drawn::Refused(refusal) => Sizing::Refused(refusal),
     }
-    MOST / product
 }
 
-// A number that keeps the limit behind a product.
-fn draw_behind(bytes: &[u8], place: usize, positive: bool, product: usize) -> Drawn
-    requires { ⌜ (1 ≤ product) × (product ≤ most) ⌝ }
-    ensures { λ r. ⌜ r ≡ drawAt (now (bytes .entry)) place positive (most / product) ⌝ }
-{
-    let value = short(bytes, place, positive, product);
-    if value < 128 {
-        return Drawn::Number {
-            value: value as u64,
-            next: place + 1,
-        };
-    }
-    draw_from(bytes, place, positive, limit_behind(product) as u64)
-}
-
-// The sizes behind NDim, which ends at `place`.
+// The sizes behind NDim, which ends at `place`, drawn one after the other by a reader that keeps its place.
 fn draw_sizes(bytes: &[u8], dims: usize, place: usize) -> Sizing
-    requires { ⌜ DimsTo (now bytes) dims place ⌝ }
+    requires { ⌜ Bytes (now bytes) × DimsTo (now bytes) dims place ⌝ }
     ensures { λ r. ⌜ SizingFrom (now (bytes .entry)) dims r ⌝ }
 {
-    let mut sized = Sized { place, product: 1 };
-    let mut count = 0;
-    while count < dims {
-        let drawn = draw_behind(bytes, sized.place, true, sized.product);
-        match drawn {
-            Drawn::Number { value, next } => {
-                sized = Sized {
-                    place: next,
-                    product: sized.product * value as usize,
-                };
-                count += 1;
-            }
-            Drawn::Cut(_) => {
-                return Sizing::Unfinished(dims - count + 2);
-            }
-            Drawn::Refused(refusal) => {
-                return Sizing::Refused(refusal);
-            }
-        }
+    let mut numbers = numbers_at(bytes, place);
+    let mut progress = Progress {
+        left: dims,
+        product: 1,
+        more: true,
+    };
+    while progress.more {
+        numbers = draw(numbers, true, MOST, progress.product);
+        progress = take_size(progress, numbers.drawn);
     }
-    Sizing::To(sized)
+    sizing_of(progress, numbers.place, numbers.drawn)
 }
 
 // Why an octet that is not 1 is refused as processing.
@@ -174,7 +159,7 @@ fn draw_element(bytes: &[u8], dims: usize, sized: Sized) -> Heading
     ensures { λ r. ⌜ HeadingFrom (now (bytes .entry)) sized r ⌝ }
 {
     let product = sized.product;
-    let drawn = draw_behind(bytes, sized.place, false, product);
+    let drawn = draw_from(bytes, sized.place, false, MOST, product as u32);
     match drawn {
         Drawn::Number { value, next } => past_processing(bytes, dims, sized, value as usize, next),
         Drawn::Cut(begun) => Heading::Unfinished(2 + product * (begun as usize * 128)),
@@ -234,7 +219,7 @@ fn from_sizes(bytes: &[u8], dims: usize, place: usize) -> Walked
 pub fn found_in(bytes: &[u8]) -> Walked
     ensures { λ r. ⌜ r ≡ walkedOf (now (bytes .entry)) ⌝ }
 {
-    let drawn = draw_from(bytes, 0, true, 8);
+    let drawn = draw_from(bytes, 0, true, 8, 1);
     match drawn {
         Drawn::Number { value, next } => from_sizes(bytes, value as usize, next),
         Drawn::Cut(_) => Walked::Unfinished(4),

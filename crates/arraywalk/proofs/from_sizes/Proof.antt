@@ -12,7 +12,7 @@ sizing-is : (c : tie.After-draw-sizes) (d : Sizing) → c .draw-sizes .result �
 sizing-is c d e = let a = c .before .before .args in subst (SizingFrom (now (a .bytes)) (a .dims)) e (c .draw-sizes .ensures)
 
 draw-sizes-requires : tie.Need-draw-sizes-requires
-draw-sizes-requires c κs = c .before .pre
+draw-sizes-requires c κs = ((λ i. c .shared-slice-known .given i .fits), c .before .pre)
 
 enum-known-sizing : tie.Need-enum-known-sizing
 enum-known-sizing c = search needs
