@@ -11,7 +11,6 @@ use Rattle.verdict.specs.declared.Refusal.{Refusal}
 use Rattle.verdict.specs.declared.Verdict.{Verdict}
 use Rattle.frame.specs.declared.Kind.the-variants.{Unknown}
 use Rattle.frame.specs.declared.Outcome.the-variants.{Bad}
-use Rattle.frame.specs.declared.Answer.{Answer}
 use Rattle.frame.specs.Frame.{answerOf}
 use Rattle.hex.proofs.DigitPairs.{Tells, decoded-tells, decoded-length}
 use Rattle.report.proofs.feed.line_answer.Statement.{statement}
