@@ -1,24 +1,26 @@
 -- Laws of a line's end: one that is closed is written, and so is one that is open behind the last chunk. Assumes nothing.
-use Prim.Native.Nat.{ℕ, _+_, _≤_}
+use Prim.Native.Nat.{ℕ, _+_, _^_, _≤_, _<_}
 use mathlib.Core.Path.{_≡_, _∙_, sym, ap, subst}
 use mathlib.Core.Bool.{false}
-use mathlib.Core.List.{List}
+use mathlib.Core.List.{List, []}
 use native.Mathlib.Omega.{arith}
 use borrow.Author.Tests.{le-ltb, eq-eqb, ne-eqb}
-use lib.Dec.{ltb}
+use lib.Dec.{eqb, ltb}
 use lib.ListN.{length}
 use Rattle.verdict.specs.declared.Verdict.{Verdict}
 use Rattle.verdict.specs.declared.Verdict.the-variants.{Complete}
 use Rattle.verdict.specs.Writing.{put, decided}
+use Rattle.verdict.proofs.Cases.{by-test}
 use Rattle.verdict.proofs.Putting.{put-none}
 use Rattle.frame.specs.declared.Kind.the-variants.{Unknown}
 use Rattle.frame.specs.declared.Outcome.the-variants.{Open}
 use Rattle.frame.specs.declared.Answer.{Answer}
 use Rattle.text.specs.Text.{textOf}
 use Rattle.text.specs.Writing.{room, WrittenLine}
-use Rattle.text.proofs.Lines.{line-left, line-counted}
+use Rattle.text.proofs.Decimals.{decimal-short}
+use Rattle.text.proofs.Lines.{length-text, line-left, line-counted}
 use Rattle.report.specs.declared.feed.State.{State}
-use Rattle.report.specs.Feeding.{heldAnswer, Closed, Finished}
+use Rattle.report.specs.Feeding.{heldAnswer, Closed, openHeld, Finished}
 
 -- where any line has room, the line that is held is closed
 module _ (number : ℕ) (answer : Answer) (out : List ℕ) (place : ℕ) (verdict : Verdict) (out′ : List ℕ) (h : place + room ≤ length out) (w : WrittenLine number answer out place verdict out′) where
@@ -42,3 +44,10 @@ module _ (state : State) (out : List ℕ) where
 
   pub finished-open : (state .held ≡ 0 → ⊥) → (verdict : Verdict) (out′ : List ℕ) → WrittenLine (state .number) (record { kind = Unknown; outcome = Open }) out 0 verdict out′ → Finished state out verdict out′
   finished-open n verdict out′ w = let t = ne-eqb (state .held) 0 n in rw t (w .written)
+
+-- an open line's report line has room where any has
+pub open-short : (number held : ℕ) → number < 2 ^ 64 → length (openHeld number held) ≤ room
+open-short number held h =
+    let answer : Answer = record { kind = Unknown; outcome = Open } in
+    by-test (λ (text : List ℕ). length text ≤ room) (eqb held 0) [] (textOf number answer) (λ _. omega arith)
+    (λ _. omega (arith, length-text number answer, decimal-short number h, decimal-short 0 (omega arith)))

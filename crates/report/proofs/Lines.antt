@@ -1,12 +1,11 @@
 -- A line is answered `OK` exactly where it spells a frame, and the report on lines is a report line for each. Assumes nothing.
-use Prim.Native.Nat.{ℕ, suc, _*_, _≤_, _<_}
-use mathlib.Core.Path.{_≡_, refl, sym, ap, _∙_, subst}
-use mathlib.Core.Bool.{false}
+use Prim.Native.Nat.{ℕ, suc, _≤_}
+use mathlib.Core.Path.{_≡_, sym, ap, _∙_}
 use mathlib.Core.Logic.{_↔_}
 use mathlib.Core.List.{List, [], _∷_, _++_, append-assoc, append-nil}
 use native.Mathlib.Omega.{arith}
 use borrow.Author.Tests.{le-ltb, ne-eqb}
-use lib.Dec.{eqb, ltb}
+use lib.Dec.{ltb}
 use lib.ListN.{length, getD}
 use Rattle.verdict.specs.declared.Reason.the-variants.{Character, FrameLong}
 use Rattle.verdict.proofs.Cases.{by-test}
@@ -15,7 +14,6 @@ use Rattle.frame.specs.declared.Kind.the-variants.{Unknown}
 use Rattle.frame.specs.declared.Outcome.the-variants.{Ok}
 use Rattle.frame.specs.declared.Answer.{Answer}
 use Rattle.frame.specs.Frame.{refusing, answerOf}
-use Rattle.frame.specs.Framed.{FrameOf}
 use Rattle.frame.proofs.Framed.{refusing-other, frame-short, okay-frames}
 use Rattle.hex.specs.Hex.{isHex, hexOf, spelling}
 use Rattle.hex.proofs.Spelling.{spelling-hex, hex-spelling, length-spelling, spelling-back, hex-bytes}

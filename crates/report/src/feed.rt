@@ -67,10 +67,10 @@ fn line_answer(text: &[u8], bytes: &mut [u8]) -> Answer
     match decoded {
         Verdict::Complete(count) => examine(&bytes[..count]),
         Verdict::Unfinished(_) => refuse(Kind::Unknown, Reason::Character),
-        Verdict::Refused(refusal) => Answer {
-            kind: Kind::Unknown,
-            outcome: Outcome::Bad(refusal),
-        },
+        Verdict::Refused(refusal) => {
+            let reason = refusal.reason;
+            refuse(Kind::Unknown, reason)
+        }
     }
 }
 

@@ -5,15 +5,13 @@ use mathlib.Core.Bool.{Bool, true, false, cond}
 use mathlib.Core.List.{List}
 use native.Mathlib.Omega.{arith}
 use borrow.Author.Tests.{le-leb, lt-leb}
-use mir.Syntax.{w64}
-use mir.Val.{Fits}
-use lib.ListN.{length, take, drop, length-take, length-drop}
+use lib.ListN.{length, take, drop, length-take}
 use Rattle.report.specs.declared.feed.State.{State}
 use Rattle.report.specs.declared.feed.Feeding.{Feeding}
 use Rattle.report.specs.declared.feed.Feeding.the-variants.{Fed}
 use Rattle.report.specs.Feeding.{FedBy}
 use Rattle.report.proofs.Progress.{fed-within}
-use Rattle.shelfcheck.specs.declared.work.Ask.the-variants.{Read, Stop}
+use Rattle.shelfcheck.specs.declared.work.Ask.the-variants.{Read}
 use Rattle.shelfcheck.specs.declared.work.Work.{Work}
 use Rattle.shelfcheck.specs.Work.{asking, chunkEnd, behindFeed, FedOn, Stopped, AfterWrite}
 

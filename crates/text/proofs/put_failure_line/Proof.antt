@@ -1,5 +1,5 @@
 -- `text::put_failure_line` meets its contract: three parts, one behind the other. Assumes nothing.
-use mathlib.Core.Path.{ap, sym, _∙_}
+use mathlib.Core.Path.{ap, _∙_}
 use native.Mathlib.Omega.{arith}
 use lib.ListN.{length}
 use Rattle.verdict.proofs.Putting.{length-put}

@@ -10,9 +10,7 @@ use lib.Seq.{length-take-le}
 use Rattle.verdict.specs.declared.Refusal.{Refusal}
 use Rattle.verdict.specs.declared.Verdict.{Verdict}
 use Rattle.frame.specs.declared.Kind.the-variants.{Unknown}
-use Rattle.frame.specs.declared.Outcome.the-variants.{Bad}
-use Rattle.frame.specs.declared.Answer.{Answer}
-use Rattle.frame.specs.Frame.{answerOf}
+use Rattle.frame.specs.Frame.{refusing, answerOf}
 use Rattle.hex.proofs.DigitPairs.{Tells, decoded-tells, decoded-length}
 use Rattle.report.proofs.feed.line_answer.Statement.{statement}
 use Rattle.report.proofs.feed.line_answer.Tie as tie
@@ -58,6 +56,9 @@ refuse-requires c κs = search needs
 enum-known-decoded-2 : tie.Need-enum-known-decoded-2
 enum-known-decoded-2 c = search needs
 
+refuse-requires-2 : tie.Need-refuse-requires-2
+refuse-requires-2 c κs = search needs
+
 same-length : tie.Need-same-length
 same-length c = search needs
 
@@ -79,10 +80,10 @@ same-length-3 c = search needs
 
 returns-3 : tie.Need-returns-3
 returns-3 c =
-    let m = c .before in
+    let m = c .before .before in
     let d = m .before .before .before .before in
     let said = tells d _ (m .decoded2 .given .1) in
-    (rw (le-ltb _ _ (d .before .before .before .before .pre .0), said .0) (ap (λ (refusal : Refusal). record { kind = Unknown; outcome = Bad refusal }) (said .1)), over d)
+    (rw (le-ltb _ _ (d .before .before .before .before .pre .0), said .0) (c .refuse2 .ensures ∙ ap (λ (refusal : Refusal). refusing Unknown (refusal .reason)) (said .1)), over d)
 
 pub line-answer-spec : {M : Type 1} → statement M
 line-answer-spec =
@@ -96,6 +97,7 @@ line-answer-spec =
     enum-told
     refuse-requires
     enum-known-decoded-2
+    refuse-requires-2
     same-length
     returns
     same-length-2

@@ -3,7 +3,6 @@ use mathlib.Core.Path.{ap}
 use mathlib.Core.Bool.{false}
 use Rattle.report.specs.declared.feed.State.{State}
 use Rattle.shelfcheck.specs.declared.work.Ask.the-variants.{Read}
-use Rattle.shelfcheck.specs.declared.work.Work.{Work}
 use borrow.Author.Needs.{needs}
 use Rattle.shelfcheck.proofs.work.begin.Statement.{statement}
 use Rattle.shelfcheck.proofs.work.begin.Tie as tie

@@ -1,5 +1,5 @@
 -- `shelfcheck::work::feed_more` meets its contract. Assumes nothing.
-use mathlib.Core.Path.{_∙_, sym}
+use mathlib.Core.Path.{_∙_}
 use native.Mathlib.Omega.{arith}
 use denote.Ref.{now}
 use Rattle.shelfcheck.proofs.Working.{unfed, left-fed, fed-fits}
