@@ -5,14 +5,16 @@ use mathlib.Core.Bool.{Bool, true, false, not, _&&_, _||_, cond, and-true, and-f
 use mathlib.Core.List.{List, [], _∷_}
 use native.Mathlib.Numerals.{add-one}
 use native.Mathlib.Omega.{arith}
-use borrow.Author.Tests.{not-true, not-false, le-leb, leb-true}
+use borrow.Author.Tests.{not-true, not-false, le-leb, lt-leb, leb-true, leb-false}
+use lib.Bits.{bitAnd, bitOr, or-lt}
 use lib.Dec.{eqb, leb}
 use lib.ListN.{length, take, drop, getD, replicate, length-replicate, getD-replicate}
 use lib.Seq.{length-take-le, getD-take}
 use Rattle.rule.specs.declared.rules.Rule.{Rule}
 use Rattle.rule.specs.Rules.{admitted, cleared}
 use Rattle.word.specs.Many.{gathered}
-use Rattle.word.proofs.Gathered.{gathered-most}
+use Rattle.word.proofs.Gathered.{or-most, gathered-most}
+use Rattle.verdict.proofs.Cases.{by-test, either}
 use Rattle.matrix.specs.declared.Fields.{Fields}
 use Rattle.matrix.specs.Meaning.{sum}
 use Rattle.matrix.proofs.BitVector.{sum-same}
@@ -27,10 +29,42 @@ marks-fit-more f [] i h = absurd (omega arith)
 marks-fit-more f (mark ∷ marks) zero h = and-true (markFits f mark)
 marks-fit-more f (mark ∷ marks) (suc i) h = rw (marks-fit-more f marks i (omega arith), and-assoc (markFits f mark))
 
--- one mark more is tested between the least and the greatest
-pub marks-fit-next : (f : Fields) (marks : List ℕ) (i least most : ℕ) (fit : Bool) → i < length marks → most ≡ min 1 (f .clen) → least ≡ cond (f .cs) 0 most → fit ≡ marksFit f (take i marks)
-    → fit && (leb least (getD marks i 0) && leb (getD marks i 0) most) ≡ marksFit f (take (i + 1) marks)
-marks-fit-next f marks i least most fit h m l e = rw (l, m, e, add-one) (sym (marks-fit-more f marks i h))
+-- of marks up to 1, all their bits together are at most the greatest where each is, and the bits that all have at least the least
+or-fits : (most any mark : ℕ) → most ≤ 1 → mark ≤ most → leb (bitOr any mark) most ≡ leb any most
+or-fits zero any mark h k = either (leb any 0) (λ t. rw t (le-leb (bitOr any mark) 0 (omega (arith, or-lt 0 any mark (omega (arith, leb-true any 0 t)) (omega arith))))) (λ t. rw t (lt-leb (bitOr any mark) 0 (omega (arith, leb-false any 0 t, or-most any mark .0))))
+or-fits (suc zero) any mark h k =
+    either (leb any 1) (λ t. rw t (le-leb (bitOr any mark) 1 (omega (arith, or-lt 1 any mark (omega (arith, leb-true any 1 t)) (omega arith))))) (λ t. rw t (lt-leb (bitOr any mark) 1 (omega (arith, leb-false any 1 t, or-most any mark .0))))
+or-fits (suc (suc most)) any mark h k = absurd (omega arith)
+
+and-fits : (least all mark : ℕ) → least ≤ 1 → all ≤ 1 → mark ≤ 1 → leb least (bitAnd all mark) ≡ leb least all && leb least mark
+and-fits zero all mark h k l = rw (le-leb 0 (bitAnd all mark) (omega arith), le-leb 0 all (omega arith), le-leb 0 mark (omega arith))
+and-fits (suc zero) zero mark h k l = refl
+and-fits (suc zero) (suc zero) zero h k l = refl
+and-fits (suc zero) (suc zero) (suc zero) h k l = refl
+and-fits (suc zero) (suc zero) (suc (suc mark)) h k l = absurd (omega arith)
+and-fits (suc zero) (suc (suc all)) mark h k l = absurd (omega arith)
+and-fits (suc (suc least)) all mark h k l = absurd (omega arith)
+
+-- one mark more
+gathered-mark : (least most any all mark : ℕ) → most ≤ 1 → least ≤ most → all ≤ most → leb (bitOr any mark) most && leb least (bitAnd all mark) ≡ (leb any most && leb least all) && (leb least mark && leb mark most)
+gathered-mark least most any all mark one low high =
+    either (leb mark most)
+    (λ t. let small = leb-true mark most t in
+    rw (or-fits most any mark one small, and-fits least all mark (omega arith) (omega arith) (omega arith), t, and-true (leb least mark), and-assoc (leb any most) (leb least all) (leb least mark)))
+    (λ t. rw (lt-leb (bitOr any mark) most (omega (arith, leb-false mark most t, or-most any mark .1)), t, and-false (leb least mark), and-false (leb any most && leb least all)))
+
+-- so the marks fit that were gathered
+pub marks-gathered : (f : Fields) (marks : List ℕ) (i least most any all : ℕ) → i < length marks → most ≡ min 1 (f .clen) → least ≡ cond (f .cs) 0 most → all ≤ most → leb any most && leb least all ≡ marksFit f (take i marks)
+    → leb (bitOr any (getD marks i 0)) most && leb least (bitAnd all (getD marks i 0)) ≡ marksFit f (take (i + 1) marks)
+marks-gathered f marks i least most any all h m l high e =
+    let low : least ≤ most = rw l (by-test (λ (n : ℕ). n ≤ most) (f .cs) 0 most (λ t. omega arith) (λ t. omega arith)) in
+    gathered-mark least most any all (getD marks i 0) (omega (arith, m)) low high ∙ rw (e, l, m, add-one) (sym (marks-fit-more f marks i h))
+
+pub gathered-none : (f : Fields) (least most : ℕ) → least ≡ cond (f .cs) 0 most → leb 0 most && leb least most ≡ marksFit f []
+unfolding marksFit
+gathered-none f least most l =
+    let low : least ≤ most = rw l (by-test (λ (n : ℕ). n ≤ most) (f .cs) 0 most (λ t. omega arith) (λ t. omega arith)) in
+    rw (le-leb 0 most (omega arith), le-leb least most low)
 
 -- a list of one value
 pub all-same : (k : ℕ) (marks : List ℕ) → ((i : ℕ) → i < length marks → getD marks i 0 ≡ k) → marks ≡ replicate (length marks) k

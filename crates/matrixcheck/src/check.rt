@@ -64,14 +64,16 @@ fn marks_fit(f: Fields, marks: &[u8], count: usize) -> bool
 {
     let most = mark_of(f.clen);
     let least = least_of(f.cs, most);
-    let mut fit = true;
+    // the bits that any mark has, and those that all have
+    let mut any: u8 = 0;
+    let mut all = most;
     let mut i = 0;
     while i < count {
-        let mark = marks[i];
-        fit = fit & ((least <= mark) & (mark <= most));
+        any = any | marks[i];
+        all = all & marks[i];
         i += 1;
     }
-    fit
+    (any <= most) & (least <= all)
 }
 
 // How many of so many marks are 1, where none is greater.

@@ -2,3 +2,5 @@ pub mod Said
 pub mod Frames
 pub mod Paper
 pub mod Stored
+pub mod Starred
+pub mod Sample

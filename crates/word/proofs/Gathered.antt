@@ -19,7 +19,7 @@ use Rattle.word.proofs.Digits.{bytes-bits}
 
 -- ---- what two numbers have together is no less than either, and below a power of two where both are
 
-or-most : (a b : ℕ) → (a ≤ bitOr a b) × (b ≤ bitOr a b)
+pub or-most : (a b : ℕ) → (a ≤ bitOr a b) × (b ≤ bitOr a b)
 or-most a b = (omega (arith, or-add-and a b, and-le-r a b), omega (arith, or-add-and a b, and-le-l a b))
 
 or-below : (k a b : ℕ) → ltb (bitOr a b) (2 ^ k) ≡ ltb a (2 ^ k) && ltb b (2 ^ k)

@@ -1,4 +1,4 @@
--- The starred rows of document 01, and a row on each side of every constant, proved as one statement against the definitions. Assumes nothing.
+-- The rows of document 01, starred and not, a row for each reason that a kind of pack has and one on each side of every constant, proved as one statement against the definitions. Assumes nothing.
 use Prim.Native.Nat.{ℕ, zero, suc, _<_}
 use mathlib.Core.Path.{_≡_, refl, ap, subst}
 use mathlib.Core.Bool.{Bool, true, _&&_, and-eq-true-iff}
@@ -8,7 +8,7 @@ use lib.Dec.{ltb}
 use lib.ListN.{getD, drop}
 use native.Mathlib.Omega.{arith}
 use Rattle.verdict.specs.declared.Reason.{Reason}
-use Rattle.verdict.specs.declared.Reason.the-variants.{Zero, TooLarge, PaddedNumber, ValueLength, Empty, VectorEnd, ValueRange, Processing}
+use Rattle.verdict.specs.declared.Reason.the-variants.{Zero, TooLarge, PaddedNumber, Mode, Reserved, ValueLength, Sparse, SizeOne, Empty, VectorEnd, ValueRange, Processing}
 use Rattle.verdict.specs.declared.Verdict.{Verdict}
 use Rattle.verdict.specs.declared.Verdict.the-variants.{Complete, Unfinished, Refused}
 use Rattle.verdict.specs.Machine.{run}
@@ -50,8 +50,23 @@ rows =
     ∷ row (0x01 ∷ []) (Unfinished 3)
     ∷ row (0x02 ∷ []) (Unfinished 3)
     ∷ row (0x03 ∷ []) (Unfinished 4)
+    ∷ row (0x10 ∷ []) (Unfinished 18)
+    ∷ row (0x11 ∷ []) (Unfinished 19)
     ∷ row (0x40 ∷ []) (Unfinished 66)
     ∷ row (0x41 ∷ []) (refused TooLarge 0)
+    ∷ row (0x00 ∷ []) (refused Zero 0)
+    ∷ row (0x7F ∷ []) (refused TooLarge 0)
+    ∷ row (0x80 ∷ []) (refused PaddedNumber 0)
+    ∷ row (0x81 ∷ []) (refused TooLarge 0)
+    ∷ row (0x02 ∷ 0x11 ∷ []) (refused Mode 1)
+    ∷ row (0x02 ∷ 0xC0 ∷ []) (refused Reserved 1)
+    ∷ row (0x02 ∷ 0x83 ∷ []) (refused ValueLength 1)
+    ∷ row (0x02 ∷ 0xA0 ∷ []) (refused Sparse 1)
+    ∷ row (0x01 ∷ 0x91 ∷ []) (refused SizeOne 1)
+    ∷ row (0x02 ∷ 0x80 ∷ 0x80 ∷ []) (refused Mode 2)
+    ∷ row (0x02 ∷ 0x80 ∷ 0x20 ∷ []) (refused Reserved 2)
+    ∷ row (0x02 ∷ 0x80 ∷ 0x40 ∷ []) (refused Reserved 2)
+    ∷ row (0x02 ∷ 0x91 ∷ 0x00 ∷ 0x40 ∷ []) (Complete 4)
     ∷ row (0x01 ∷ 0x80 ∷ 0x11 ∷ 0x05 ∷ []) (Complete 4)
     ∷ row (0x02 ∷ 0x80 ∷ 0x00 ∷ []) (refused Empty 2)
     ∷ row (0x03 ∷ 0xB1 ∷ 0x00 ∷ 0x00 ∷ []) (refused Empty 3)
@@ -86,8 +101,11 @@ rows =
     ∷ arrayRow (0x01 ∷ 0x02 ∷ 0x81 ∷ []) (Unfinished 258)
     ∷ arrayRow (0x08 ∷ []) (Unfinished 10)
     ∷ arrayRow (0x09 ∷ []) (refused TooLarge 0)
+    ∷ arrayRow (0x00 ∷ []) (refused Zero 0)
     ∷ arrayRow (0x80 ∷ []) (refused PaddedNumber 0)
     ∷ arrayRow (0x01 ∷ 0x00 ∷ []) (refused Zero 1)
+    ∷ arrayRow (0x01 ∷ 0x80 ∷ []) (refused PaddedNumber 1)
+    ∷ arrayRow (0x01 ∷ 0x01 ∷ 0x80 ∷ []) (refused PaddedNumber 2)
     ∷ arrayRow (0x02 ∷ 0x81 ∷ 0x00 ∷ 0x82 ∷ 0x00 ∷ []) (Unfinished 2)
     ∷ arrayRow (0x02 ∷ 0x81 ∷ 0x00 ∷ 0x82 ∷ 0x01 ∷ []) (refused TooLarge 4)
     ∷ arrayRow (0x01 ∷ 0x82 ∷ 0x80 ∷ 0x00 ∷ 0x01 ∷ []) (Unfinished 32769)

@@ -1,0 +1,109 @@
+-- Document 01's sample of the report, both keys, and the greatest counts of a frame's bytes and a line's characters on both sides, against the definitions. Assumes nothing.
+use Prim.Native.Nat.{ℕ, zero, suc}
+use mathlib.Core.Path.{_≡_, refl, sym, ap, _∙_}
+use mathlib.Core.Bool.{Bool, true, not, _&&_, and-eq-true-iff, false≢true}
+use mathlib.Core.List.{List, [], _∷_}
+use native.Mathlib.Omega.{arith}
+use borrow.Author.Tests.{eq-eqb}
+use lib.Dec.{eqb}
+use lib.ListN.{replicate, getD}
+use Rattle.verdict.specs.declared.Reason.the-variants.{UnknownKey, Character, FrameLong}
+use Rattle.verdict.specs.Machine.{run}
+use Rattle.verdict.specs.Rows.{judged}
+use Rattle.word.specs.Digits.{digits}
+use Rattle.matrix.specs.Meaning.{sum}
+use Rattle.matrix.specs.Machine.{enter, runBytes}
+use Rattle.frame.specs.declared.Kind.the-variants.{Matrix, Array, Unknown}
+use Rattle.frame.specs.Frame.{matrixKey, arrayKey, same, kindOf, refusing, answerOf}
+use Rattle.hex.specs.Hex.{isHex, hexOf}
+use Rattle.text.specs.Text.{decimalIn, decimal}
+use Rattle.report.specs.Line.{lineAnswer}
+use Rattle.report.specs.Report.{reportOf, closed, answers}
+use Rattle.report.proofs.Lines.{Unclosed, lines-report}
+
+-- ---- the sample, line by line, in ASCII
+
+-- 060E2B34020501010E010303210000000401801105
+abbrev line1 : List ℕ
+line1 = 48 ∷ 54 ∷ 48 ∷ 69 ∷ 50 ∷ 66 ∷ 51 ∷ 52 ∷ 48 ∷ 50 ∷ 48 ∷ 53 ∷ 48 ∷ 49 ∷ 48 ∷ 49 ∷ 48 ∷ 69 ∷ 48 ∷ 49 ∷ 48 ∷ 51 ∷ 48 ∷ 51 ∷ 50 ∷ 49 ∷ 48 ∷ 48 ∷ 48 ∷ 48 ∷ 48 ∷ 48 ∷ 48 ∷ 52 ∷ 48 ∷ 49 ∷ 56 ∷ 48 ∷ 49 ∷ 49 ∷ 48 ∷ 53 ∷ []
+
+-- 1 S OK 4 0
+abbrev said1 : List ℕ
+said1 = 49 ∷ 32 ∷ 83 ∷ 32 ∷ 79 ∷ 75 ∷ 32 ∷ 52 ∷ 32 ∷ 48 ∷ []
+
+-- 060E2B34020501010E0103030600000003010181
+abbrev line2 : List ℕ
+line2 = 48 ∷ 54 ∷ 48 ∷ 69 ∷ 50 ∷ 66 ∷ 51 ∷ 52 ∷ 48 ∷ 50 ∷ 48 ∷ 53 ∷ 48 ∷ 49 ∷ 48 ∷ 49 ∷ 48 ∷ 69 ∷ 48 ∷ 49 ∷ 48 ∷ 51 ∷ 48 ∷ 51 ∷ 48 ∷ 54 ∷ 48 ∷ 48 ∷ 48 ∷ 48 ∷ 48 ∷ 48 ∷ 48 ∷ 51 ∷ 48 ∷ 49 ∷ 48 ∷ 49 ∷ 56 ∷ 49 ∷ []
+
+-- 2 M CUT 130 0
+abbrev said2 : List ℕ
+said2 = 50 ∷ 32 ∷ 77 ∷ 32 ∷ 67 ∷ 85 ∷ 84 ∷ 32 ∷ 49 ∷ 51 ∷ 48 ∷ 32 ∷ 48 ∷ []
+
+-- 060E2B34020501010E010303210000000402910081
+abbrev line3 : List ℕ
+line3 = 48 ∷ 54 ∷ 48 ∷ 69 ∷ 50 ∷ 66 ∷ 51 ∷ 52 ∷ 48 ∷ 50 ∷ 48 ∷ 53 ∷ 48 ∷ 49 ∷ 48 ∷ 49 ∷ 48 ∷ 69 ∷ 48 ∷ 49 ∷ 48 ∷ 51 ∷ 48 ∷ 51 ∷ 50 ∷ 49 ∷ 48 ∷ 48 ∷ 48 ∷ 48 ∷ 48 ∷ 48 ∷ 48 ∷ 52 ∷ 48 ∷ 50 ∷ 57 ∷ 49 ∷ 48 ∷ 48 ∷ 56 ∷ 49 ∷ []
+
+-- 3 S BAD 11 3
+abbrev said3 : List ℕ
+said3 = 51 ∷ 32 ∷ 83 ∷ 32 ∷ 66 ∷ 65 ∷ 68 ∷ 32 ∷ 49 ∷ 49 ∷ 32 ∷ 51 ∷ []
+
+-- 060E2B
+abbrev line4 : List ℕ
+line4 = 48 ∷ 54 ∷ 48 ∷ 69 ∷ 50 ∷ 66 ∷ []
+
+-- 4 - OPEN 0 0
+abbrev said4 : List ℕ
+said4 = 52 ∷ 32 ∷ 45 ∷ 32 ∷ 79 ∷ 80 ∷ 69 ∷ 78 ∷ 32 ∷ 48 ∷ 32 ∷ 48 ∷ []
+
+-- whether no character is LF
+abbrev clear : List ℕ → Bool
+clear [] = true
+clear (c ∷ line) = not (eqb c 10) && clear line
+
+clear-unclosed : (line : List ℕ) → clear line ≡ true → Unclosed line
+clear-unclosed [] e i h = omega arith
+clear-unclosed (c ∷ line) e i h = at i (and-eq-true-iff (not (eqb c 10)) (clear line) .0 e) h (λ k. clear-unclosed line k)
+  where
+    at : (i : ℕ) → (not (eqb c 10) ≡ true) × (clear line ≡ true) → getD (c ∷ line) i 0 ≡ 10 → (clear line ≡ true → Unclosed line) → ⊥
+    at zero k h ih = false≢true (sym (ap not (eq-eqb c 10 h)) ∙ k .0)
+    at (suc i) k h ih = ih (k .1) i h
+
+each-clear : (i : ℕ) → Unclosed (getD (line1 ∷ line2 ∷ line3 ∷ []) i [])
+each-clear zero = clear-unclosed line1 refl
+each-clear (suc zero) = clear-unclosed line2 refl
+each-clear (suc (suc zero)) = clear-unclosed line3 refl
+each-clear (suc (suc (suc i))) = clear-unclosed [] refl
+
+-- the answers to its lines are those of document 01
+sample-answered : answers 1 (line1 ∷ line2 ∷ line3 ∷ []) line4 ≡ closed (said1 ∷ said2 ∷ said3 ∷ said4 ∷ []) []
+unfolding answers closed isHex hexOf same run judged enter runBytes sum digits decimal decimalIn
+sample-answered = refl
+
+-- three lines and an open fourth are reported as document 01 has it
+pub sample-reported : reportOf (closed (line1 ∷ line2 ∷ line3 ∷ []) line4) ≡ closed (said1 ∷ said2 ∷ said3 ∷ said4 ∷ []) []
+sample-reported = lines-report (line1 ∷ line2 ∷ line3 ∷ []) line4 each-clear (clear-unclosed line4 refl) ∙ sample-answered
+
+-- ---- the keys
+
+-- the kinds of both keys, of a key with another last byte, and of one byte less
+pub keys-named : (kindOf matrixKey ≡ Matrix) × (kindOf arrayKey ≡ Array) × (kindOf (0x06 ∷ 0x0E ∷ 0x2B ∷ 0x34 ∷ 0x02 ∷ 0x05 ∷ 0x01 ∷ 0x01 ∷ 0x0E ∷ 0x01 ∷ 0x03 ∷ 0x03 ∷ 0x21 ∷ 0x00 ∷ 0x00 ∷ 0x01 ∷ []) ≡ Unknown) × (kindOf (0x06 ∷ 0x0E ∷ 0x2B ∷ 0x34 ∷ 0x02 ∷ 0x05 ∷ 0x01 ∷ 0x01 ∷ 0x0E ∷ 0x01 ∷ 0x03 ∷ 0x03 ∷ 0x22 ∷ 0x00 ∷ 0x00 ∷ 0x00 ∷ []) ≡ Unknown)
+unfolding same
+keys-named = (refl, refl, refl, refl)
+
+-- ---- the greatest counts
+
+-- 32,832 bytes of 0 are looked at, and have no known key; one more is 25
+pub longest-frame : answerOf (replicate 32832 0) ≡ refusing Unknown UnknownKey
+unfolding same
+longest-frame = refl
+
+pub longer-frame : answerOf (replicate 32833 0) ≡ refusing Unknown FrameLong
+longer-frame = refl
+
+-- 65,664 characters G are looked at, and are no digits; one more is 25
+pub longest-line : lineAnswer (replicate 65664 71) ≡ refusing Unknown Character
+unfolding isHex
+longest-line = refl
+
+pub longer-line : lineAnswer (replicate 65665 71) ≡ refusing Unknown FrameLong
+longer-line = refl
