@@ -1,5 +1,5 @@
 -- What a whole pack that was found is read as, and how an element of it is addressed. Assumes nothing.
-use Prim.Native.Nat.{ℕ, suc, _+_, _-_, _*_, _≤_, _<_}
+use Prim.Native.Nat.{ℕ, _+_, _-_, _*_, _≤_, _<_}
 use mathlib.Core.Path.{_≡_, refl, sym, ap, _∙_, subst}
 use mathlib.Core.Logic.{_≢_}
 use mathlib.Core.Bool.{true, false}
@@ -27,7 +27,6 @@ use Rattle.array.specs.Meaning.{Array as Meant}
 use Rattle.array.specs.Decoded.{meaningOf}
 use Rattle.array.specs.Offsets.{inside}
 use Rattle.arraywalk.specs.Walk.{walkedOf}
-use Rattle.arraywalk.specs.Standing.{SizesAt}
 use Rattle.arrayreader.specs.Reading.{sizesOf, readFor, readOf, addressIn}
 use Rattle.arrayreader.specs.Again.{SizesTo, Put, AllPut, noneAgain, againBehind}
 use Rattle.arrayreader.specs.declared.Again.{Again}

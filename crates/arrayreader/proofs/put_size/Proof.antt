@@ -2,7 +2,6 @@
 use mathlib.Core.Path.{ap}
 use Prim.Native.Nat.{ℕ, _+_}
 use lib.ListN.{set}
-use Rattle.arrayreader.specs.declared.Again.{Again}
 use borrow.Author.Needs.{needs}
 use Rattle.arrayreader.proofs.put_size.Statement.{statement}
 use Rattle.arrayreader.proofs.put_size.Tie as tie
