@@ -1,7 +1,7 @@
 -- What reading and addressing state is what the verdict on the bytes states, with the values of a complete pack; and answers that state the same are the same. Assumes nothing.
 use Prim.Native.Nat.{ℕ, _*_}
 use mathlib.Core.Path.{_≡_, refl, sym, ap, _∙_}
-use mathlib.Core.Bool.{Bool, true, false}
+use mathlib.Core.Bool.{true, false}
 use mathlib.Core.List.{List, [], _∷_}
 use lib.ListN.{length}
 use Rattle.verdict.specs.declared.Verdict.{Verdict}
@@ -12,7 +12,6 @@ use Rattle.array.specs.Decoded.{meaningOf}
 use Rattle.array.specs.Offsets.{inside, offset}
 use Rattle.array.specs.Machine.{verdictOf}
 use Rattle.arraywalk.specs.Stated.{lengthIn, startOf}
-use Rattle.arrayreader.specs.declared.Sizes.{Sizes}
 use Rattle.arrayreader.specs.declared.Answer.{Answer}
 use Rattle.arrayreader.specs.declared.Answer.the-variants.{Array, Unfinished as AnswerUnfinished, Refused as AnswerRefused}
 use Rattle.arrayreader.specs.declared.Addressed.{Addressed}

@@ -1,15 +1,15 @@
 // Reading array packs: the verdict on a string of bytes, the numbers of a pack, and the offset of an element.
 ghost use mathlib.Core.Path.{_≡_};
-ghost use Prim.Native.Nat.{suc};
-ghost use lib.ListN.{getD};
+ghost use Prim.Native.Nat.{_<_};
 ghost use Rattle.array.specs.Machine.{verdictOf};
 ghost use Rattle.array.specs.Decoded.{meaningOf};
 ghost use Rattle.arrayreader.specs.Reading.{sizesOf, readOf, addressIn, addressOf};
-ghost use Rattle.arrayreader.specs.Again.{SizesTo};
+ghost use Rattle.arrayreader.specs.Again.{SizesTo, AllPut, noneAgain, valueOf, againBehind};
 use arraywalk::Walked;
 use arraywalk::found_in;
 use number::Drawn;
-use number::draw_from;
+use number::draw;
+use number::numbers_at;
 use verdict::Reason;
 use verdict::Refusal;
 use verdict::Verdict;
@@ -52,10 +52,10 @@ pub enum Addressed {
     Refused(Refusal),
 }
 
-// A size drawn again: its value, 0 behind the last, and the place behind it.
-pub(crate) struct Size {
-    pub value: usize,
-    pub next: usize,
+// The sizes drawn again: how many, and the sizes, 0 past the last.
+pub(crate) struct Again {
+    pub count: usize,
+    pub sizes: [usize; 8],
 }
 
 // The verdict on a string of bytes as an array pack.
@@ -70,32 +70,53 @@ pub fn verdict(bytes: &[u8]) -> Verdict
     }
 }
 
-// The size behind the first `count` of a whole pack, which end at `place`.
-fn size_at(bytes: &[u8], place: usize, count: usize, dims: usize) -> Size
-    requires { ⌜ SizesTo (now bytes) dims count place ⌝ }
-    ensures { λ r. ⌜ (r .value ≡ getD (meaningOf (now (bytes .entry)) .sizes) count 0) × SizesTo (now (bytes .entry)) dims (suc count) (r .next) ⌝ }
+// Before the first is drawn again.
+fn none_again() -> Again
+    ensures { λ r. ⌜ r ≡ noneAgain ⌝ }
 {
-    if dims <= count {
-        return Size {
-            value: 0,
-            next: place,
-        };
+    Again {
+        count: 0,
+        sizes: [0; 8],
     }
-    let drawn = draw_from(bytes, place, true, MOST, 1);
+}
+
+// The value of a number that was drawn.
+fn value_of(drawn: Drawn) -> usize
+    ensures { λ r. ⌜ r ≡ valueOf drawn ⌝ }
+{
     match drawn {
-        Drawn::Number { value, next } => Size {
-            value: value as usize,
-            next,
-        },
-        Drawn::Cut(_) => Size {
-            value: 0,
-            next: place,
-        },
-        Drawn::Refused(_) => Size {
-            value: 0,
-            next: place,
-        },
+        Drawn::Number { value, next: _ } => value as usize,
+        Drawn::Cut(_) => 0,
+        Drawn::Refused(_) => 0,
     }
+}
+
+// What was drawn is put behind the sizes before it.
+fn put_size(again: Again, drawn: Drawn) -> Again
+    requires { ⌜ again .count < 8 ⌝ }
+    ensures { λ r. ⌜ r ≡ againBehind again drawn ⌝ }
+{
+    let count = again.count;
+    let mut sizes = again.sizes;
+    sizes[count] = value_of(drawn);
+    Again {
+        count: count + 1,
+        sizes,
+    }
+}
+
+// The sizes of a whole pack, drawn one after the other by a reader that keeps its place.
+fn draw_again(bytes: &[u8], dims: usize) -> Again
+    requires { ⌜ SizesTo (now bytes) dims 0 1 ⌝ }
+    ensures { λ r. ⌜ AllPut (meaningOf (now (bytes .entry)) .sizes) (r .sizes) ⌝ }
+{
+    let mut numbers = numbers_at(bytes, SIZES);
+    let mut again = none_again();
+    while again.count < dims {
+        numbers = draw(numbers, true, MOST, 1);
+        again = put_size(again, numbers.drawn);
+    }
+    again
 }
 
 // The sizes of a whole pack.
@@ -103,23 +124,17 @@ fn sizes_in(bytes: &[u8], dims: usize) -> Sizes
     requires { ⌜ SizesTo (now bytes) dims 0 1 ⌝ }
     ensures { λ r. ⌜ r ≡ sizesOf (meaningOf (now (bytes .entry)) .sizes) ⌝ }
 {
-    let one = size_at(bytes, SIZES, 0, dims);
-    let two = size_at(bytes, one.next, 1, dims);
-    let three = size_at(bytes, two.next, 2, dims);
-    let four = size_at(bytes, three.next, 3, dims);
-    let five = size_at(bytes, four.next, 4, dims);
-    let six = size_at(bytes, five.next, 5, dims);
-    let seven = size_at(bytes, six.next, 6, dims);
-    let eight = size_at(bytes, seven.next, 7, dims);
+    let again = draw_again(bytes, dims);
+    let sizes = again.sizes;
     Sizes {
-        one: one.value,
-        two: two.value,
-        three: three.value,
-        four: four.value,
-        five: five.value,
-        six: six.value,
-        seven: seven.value,
-        eight: eight.value,
+        one: sizes[0],
+        two: sizes[1],
+        three: sizes[2],
+        four: sizes[3],
+        five: sizes[4],
+        six: sizes[5],
+        seven: sizes[6],
+        eight: sizes[7],
     }
 }
 
@@ -155,20 +170,20 @@ fn address_in(bytes: &[u8], dims: usize, element: usize, indices: &[usize]) -> A
             place: 0,
         });
     }
-    let mut place = SIZES;
+    let again = draw_again(bytes, dims);
+    let sizes = again.sizes;
     let mut offset = 0;
     let mut i = 0;
     while i < dims {
-        let size = size_at(bytes, place, i, dims);
+        let size = sizes[i];
         let index = indices[i];
-        if size.value <= index {
+        if size <= index {
             return Addressed::Refused(Refusal {
                 reason: Reason::Index,
                 place: 0,
             });
         }
-        offset = offset * size.value + index;
-        place = size.next;
+        offset = offset * size + index;
         i += 1;
     }
     Addressed::Offset(offset * element)

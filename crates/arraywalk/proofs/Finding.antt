@@ -4,7 +4,7 @@ use mathlib.Core.Path.{_≡_, refl, sym, ap, _∙_}
 use mathlib.Core.Bool.{true}
 use mathlib.Core.List.{List, [], _∷_, _++_, append-assoc}
 use native.Mathlib.Omega.{arith}
-use lib.ListN.{length, getD, drop, take-append-drop, drop-of-length-le}
+use lib.ListN.{length, getD, drop, take-append-drop}
 use lib.Seq.{drop-cons, drop-drop, drop-append-seam}
 use Rattle.verdict.specs.declared.Verdict.{Verdict}
 use Rattle.verdict.specs.declared.Verdict.the-variants.{Complete, Unfinished, Refused}
@@ -57,13 +57,6 @@ sizes-begin bytes b n e =
     let one : octets k ≡ k ∷ [] = ap octets (omega arith) ∙ octets-more 0 k (omega (arith, x .0 .few-sizes)) ∙ rw high-none in
     let whole : bytes ≡ (k ∷ []) ++ (numbers (a .sizes) ++ rest) ++ drop n bytes = sym (take-append-drop n bytes) ∙ ap (λ (w : List ℕ). w ++ drop n bytes) (sym (x .1) ∙ ap (λ (o : List ℕ). o ++ (numbers (a .sizes) ++ rest)) one) in
     record { tail = rest ++ drop n bytes; stand = ap (drop 1) whole ∙ append-assoc (numbers (a .sizes)) rest (drop n bytes) }
-
--- none stand behind the last
-pub sizes-past : (bytes sizes : List ℕ) (count place : ℕ) → SizesAt bytes sizes count place → length sizes ≤ count → SizesAt bytes sizes (suc count) place
-sizes-past bytes sizes count place s h =
-    let l : length sizes ≤ suc count = omega arith in
-    let e : drop count sizes ≡ drop (suc count) sizes = drop-of-length-le sizes h ∙ sym (drop-of-length-le sizes l) in
-    record { tail = s .tail; stand = s .stand ∙ ap (λ (l : List ℕ). numbers l ++ s .tail) e }
 
 module _ (bytes sizes : List ℕ) (count place : ℕ) (s : SizesAt bytes sizes count place) (h : count < length sizes) where
   abbrev size : ℕ

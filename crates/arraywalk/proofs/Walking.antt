@@ -2,9 +2,9 @@
 use Prim.Native.Nat.{ℕ, zero, suc, _+_, _-_, _*_, _/_, _≤_, _<_}
 use mathlib.Core.Path.{_≡_, refl, sym, ap, ap₂, _∙_}
 use mathlib.Core.Logic.{_≢_}
-use mathlib.Core.Bool.{Bool, true, false}
+use mathlib.Core.Bool.{true, false}
 use mathlib.Core.List.{List, [], _∷_, _++_}
-use native.Mathlib.Nat.{mul-pos, mul-le-mul-right, mul-comm, le-div-iff-mul-le}
+use native.Mathlib.Nat.{mul-pos, mul-le-mul-right}
 use native.Mathlib.Omega.{arith}
 use borrow.Author.Tests.{lt-ltb, le-ltb, ltb-false}
 use lib.Dec.{ltb}
@@ -18,13 +18,11 @@ use Rattle.verdict.specs.Machine.{Move, on, bad, led}
 use Rattle.verdict.specs.Says.{Bytes}
 use Rattle.verdict.proofs.Cases.{either}
 use Rattle.verdict.proofs.Reaching.{reach-start, reach-cut, reach-step}
-use Rattle.number.specs.declared.Effect.the-variants.{Ends}
 use Rattle.number.specs.declared.Drawn.{Drawn}
 use Rattle.number.specs.declared.Drawn.the-variants.{Number, Cut, Refused as DrawnRefused}
 use Rattle.number.specs.Draw.{drawAt}
 use Rattle.number.specs.Front.{Front, front, fronts}
-use Rattle.number.proofs.Octet.{ended-large, gone-large, effect-ends}
-use Rattle.number.proofs.Drawing.{draw-octet}
+use Rattle.number.proofs.Octet.{ended-large, gone-large}
 use Rattle.number.proofs.Octets.{drawn-cut}
 use Rattle.number.proofs.Front.{front-drawn, drawn-within, shortest-there, fronts-more, fronts-count}
 use Rattle.arraywalk.specs.declared.Sized.{Sized}

@@ -1,6 +1,6 @@
 -- What a walk over an array pack's numbers states in document 01's terms.
 use Prim.Native.Nat.{ℕ, _-_, _*_}
-use mathlib.Core.List.{List, [], _∷_}
+use mathlib.Core.List.{[], _∷_}
 use lib.ListN.{length}
 use Rattle.verdict.specs.declared.Verdict.{Verdict}
 use Rattle.verdict.specs.declared.Verdict.the-variants.{Complete, Unfinished, Refused}

@@ -1,13 +1,12 @@
 -- Two answers of a draw that state the same are the same; and what any two answers that state the same have in common. Assumes nothing.
-use Prim.Native.Nat.{ℕ, _*_}
+use Prim.Native.Nat.{ℕ}
 use mathlib.Core.Path.{_≡_, sym, ap, ap₂}
-use mathlib.Core.List.{List, [], _∷_}
+use mathlib.Core.List.{List}
 use native.Mathlib.Omega.{arith}
 use lib.ListN.{length, getD}
 use Rattle.verdict.specs.declared.Reason.{Reason}
 use Rattle.verdict.specs.declared.Refusal.{Refusal}
-use Rattle.verdict.specs.Numbers.{numberOf}
-use Rattle.verdict.specs.Stated.{Stated, gives, misses, refuses, statedRefusal}
+use Rattle.verdict.specs.Stated.{gives, misses, refuses, statedRefusal}
 use Rattle.verdict.proofs.Numbered.{number-own}
 use Rattle.number.specs.declared.Drawn.{Drawn}
 use Rattle.number.specs.declared.Drawn.the-variants.{Number, Cut, Refused}

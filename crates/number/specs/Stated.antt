@@ -1,6 +1,6 @@
 -- What drawing a number states in document 01's terms.
-use Prim.Native.Nat.{ℕ, _*_}
-use mathlib.Core.List.{List, [], _∷_}
+use Prim.Native.Nat.{_*_}
+use mathlib.Core.List.{[], _∷_}
 use Rattle.verdict.specs.Stated.{Stated, gives, statedRefusal}
 use Rattle.number.specs.declared.Drawn.{Drawn}
 use Rattle.number.specs.declared.Drawn.the-variants.{Number, Cut, Refused}

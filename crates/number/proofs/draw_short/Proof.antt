@@ -1,5 +1,5 @@
 -- `number::draw_short` meets its contract: an octet that passed the tests is drawn. Assumes nothing.
-use Prim.Native.Nat.{_+_, _/_, _<_}
+use Prim.Native.Nat.{_+_, _<_}
 use mathlib.Core.Path.{_≡_, refl, sym, _∙_}
 use mathlib.Core.Bool.{true, true≢false}
 use native.Mathlib.Nat.{mul-le-mul}
