@@ -26,10 +26,11 @@ begun = record { ask = Read; state = record { number = 1; held = 0 }; number = 1
 abbrev pub asking : Work → Ask → Work
 asking work ask = record { ask = ask; state = work .state; number = work .number; length = work .length; fed = work .fed; ended = work .ended }
 
--- the part of the chunk from what was fed on
+-- where the chunk ends
 abbrev pub chunkEnd : Work → List ℕ → ℕ
 chunkEnd work chunk = min (work .length) (length chunk)
 
+-- the part of it from what was fed on
 abbrev pub leftOf : Work → List ℕ → List ℕ
 leftOf work chunk = take (chunkEnd work chunk - work .fed) (drop (work .fed) chunk)
 
@@ -55,6 +56,7 @@ pub record Unfed (work : Work) (line out : List ℕ) (work′ : Work) (line′ o
   pub same : Same line out line′ out′
   pub stands : work′ ≡ asking work Read
 
+-- by whether anything is left
 abbrev pub FedOn : Work → List ℕ → List ℕ → List ℕ → Work → List ℕ → List ℕ → Type 0
 FedOn work chunk line out work′ line′ out′ =
     cond (leb (chunkEnd work chunk) (work .fed)) (Unfed work line out work′ line′ out′) (FedLeft work chunk line out work′ line′ out′)

@@ -17,7 +17,7 @@ use verdict::Refusal;
 use verdict::Verdict;
 
 // What is asked: to read a chunk; to write so many bytes of the output, or to say so many of them on standard error, as the last; nothing more. A refusal is 13, for memory that is too short.
-pub enum Ask {
+pub(crate) enum Ask {
     Read,
     Write(usize),
     Say(usize),
@@ -26,7 +26,7 @@ pub enum Ask {
 }
 
 // Where the work stands: what is asked; the report's state; the number of the first line in what is to be written; how long the chunk is, and how much of it was fed; whether the input ended.
-pub struct Work {
+pub(crate) struct Work {
     pub ask: Ask,
     pub state: State,
     pub number: u64,
@@ -36,7 +36,7 @@ pub struct Work {
 }
 
 // Before the first read.
-pub fn begin() -> Work
+pub(crate) fn begin() -> Work
     ensures { λ r. ⌜ r ≡ begun ⌝ }
 {
     let state = start();
@@ -145,7 +145,13 @@ fn end(work: Work, out: &mut [u8]) -> Work
 }
 
 // So many bytes were read to the front of the chunk; none at the end of the input.
-pub fn after_read(work: Work, count: usize, chunk: &[u8], line: &mut [u8], out: &mut [u8]) -> Work
+pub(crate) fn after_read(
+    work: Work,
+    count: usize,
+    chunk: &[u8],
+    line: &mut [u8],
+    out: &mut [u8],
+) -> Work
     ensures { λ r. ⌜ AfterRead work count (now (chunk .entry)) (now (line .entry)) (now (out .entry)) r (now (line .exit)) (now (out .exit)) ⌝ }
 {
     if count == 0 {
@@ -164,7 +170,7 @@ pub fn after_read(work: Work, count: usize, chunk: &[u8], line: &mut [u8], out: 
 }
 
 // All that was asked was written.
-pub fn after_write(work: Work, chunk: &[u8], line: &mut [u8], out: &mut [u8]) -> Work
+pub(crate) fn after_write(work: Work, chunk: &[u8], line: &mut [u8], out: &mut [u8]) -> Work
     ensures { λ r. ⌜ AfterWrite work (now (chunk .entry)) (now (line .entry)) (now (out .entry)) r (now (line .exit)) (now (out .exit)) ⌝ }
 {
     if work.ended {
@@ -185,7 +191,7 @@ fn number_at(work: Work, failure: Failure) -> u64
 }
 
 // Something failed: that is to be said, and is the last.
-pub fn fail(work: Work, failure: Failure, out: &mut [u8]) -> Work
+pub(crate) fn fail(work: Work, failure: Failure, out: &mut [u8]) -> Work
     ensures { λ r. ⌜ Failed work failure (now (out .entry)) r (now (out .exit)) ⌝ }
 {
     let written = write_failure(failure, number_at(work, failure), out);
@@ -194,7 +200,7 @@ pub fn fail(work: Work, failure: Failure, out: &mut [u8]) -> Work
 }
 
 // Nothing more is asked.
-pub fn stop(work: Work) -> Work
+pub(crate) fn stop(work: Work) -> Work
     ensures { λ r. ⌜ r ≡ asking work Stop ⌝ }
 {
     ask_for(work, Ask::Stop)

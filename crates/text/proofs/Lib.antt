@@ -2,5 +2,4 @@ pub mod Decimals
 pub mod Spelling
 pub mod Lines
 pub mod Only
-pub mod Stating
 pub mod Failing

@@ -5,12 +5,12 @@ use mathlib.Core.List.{List, [], _∷_, _++_}
 use lib.Dec.{ltb}
 use lib.ListN.{getD}
 use Rattle.verdict.specs.Stated.{Stated, gives, misses, refuses}
-use Rattle.verdict.specs.Numbers.{numberOf}
 use Rattle.frame.specs.declared.Kind.{Kind}
 use Rattle.frame.specs.declared.Kind.the-variants.{Matrix, Array, Unknown}
 use Rattle.frame.specs.declared.Outcome.{Outcome}
 use Rattle.frame.specs.declared.Outcome.the-variants.{Ok, Cut, Bad, Open}
 use Rattle.frame.specs.declared.Answer.{Answer}
+use Rattle.frame.specs.Stated.{statedOutcome}
 use Rattle.text.specs.declared.Failure.{Failure}
 use Rattle.text.specs.declared.Failure.the-variants.{Reading, Writing}
 
@@ -27,19 +27,6 @@ wordOf (Cut missing) = 67 ∷ 85 ∷ 84 ∷ []
 wordOf (Bad refusal) = 66 ∷ 65 ∷ 68 ∷ []
 wordOf Open = 79 ∷ 80 ∷ 69 ∷ 78 ∷ []
 
--- the two numbers: the value's length, 0; the missing bytes, 0; the reason, the place; 0, 0
-abbrev pub firstOf : Outcome → ℕ
-firstOf (Ok count) = count
-firstOf (Cut missing) = missing
-firstOf (Bad refusal) = numberOf (refusal .reason)
-firstOf Open = 0
-
-abbrev pub secondOf : Outcome → ℕ
-secondOf (Ok count) = 0
-secondOf (Cut missing) = 0
-secondOf (Bad refusal) = refusal .place
-secondOf Open = 0
-
 -- the two numbers of what is stated: the first value, and 0 beside it; the missing bytes, and 0; the refusal's number and its place
 abbrev pub firstStated : Stated → ℕ
 firstStated (gives values) = getD values 0 0
@@ -50,6 +37,13 @@ abbrev pub secondStated : Stated → ℕ
 secondStated (gives values) = 0
 secondStated (misses missing) = 0
 secondStated (refuses number place) = place
+
+-- a line's two numbers: the value's length, 0; the missing bytes, 0; the reason, the place; 0, 0
+abbrev pub firstOf : Outcome → ℕ
+firstOf outcome = firstStated (statedOutcome outcome)
+
+abbrev pub secondOf : Outcome → ℕ
+secondOf outcome = secondStated (statedOutcome outcome)
 
 -- a number's decimal digits, at most one more than so many
 unfoldable pub decimalIn : ℕ → ℕ → List ℕ
@@ -71,16 +65,17 @@ tailOf outcome = 32 ∷ decimal (firstOf outcome) ++ (32 ∷ decimal (secondOf o
 abbrev pub textOf : ℕ → Answer → List ℕ
 textOf number answer = headOf number answer ++ tailOf (answer .outcome)
 
--- reading, writing
+-- what failed, in a word: reading, writing
 abbrev pub failureWord : Failure → List ℕ
 failureWord Reading = 114 ∷ 101 ∷ 97 ∷ 100 ∷ 105 ∷ 110 ∷ 103 ∷ []
 failureWord Writing = 119 ∷ 114 ∷ 105 ∷ 116 ∷ 105 ∷ 110 ∷ 103 ∷ []
 
--- shelfcheck: reading failed at line N
+-- in words: shelfcheck: reading failed at line
 abbrev pub failureOf : Failure → List ℕ
 failureOf failure =
     115 ∷ 104 ∷ 101 ∷ 108 ∷ 102 ∷ 99 ∷ 104 ∷ 101 ∷ 99 ∷ 107 ∷ 58 ∷ 32
     ∷ (failureWord failure ++ (32 ∷ 102 ∷ 97 ∷ 105 ∷ 108 ∷ 101 ∷ 100 ∷ 32 ∷ 97 ∷ 116 ∷ 32 ∷ 108 ∷ 105 ∷ 110 ∷ 101 ∷ 32 ∷ []))
 
+-- with the number of the line, and LF
 abbrev pub failureText : Failure → ℕ → List ℕ
 failureText failure number = failureOf failure ++ (decimal number ++ (10 ∷ []))
