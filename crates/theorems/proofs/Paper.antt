@@ -17,7 +17,7 @@ use Rattle.verdict.specs.declared.Verdict.{Verdict}
 use Rattle.verdict.specs.declared.Verdict.the-variants.{Complete, Unfinished, Refused}
 use Rattle.verdict.specs.Says.{Bytes, Says}
 use Rattle.verdict.specs.Rows.{Row}
-use Rattle.verdict.specs.Numbers.{packedOf, paperOf, Occurs}
+use Rattle.verdict.specs.Numbers.{Occurs}
 use Rattle.verdict.specs.Writing.{refusing, decided}
 use Rattle.verdict.proofs.Cases.{by-test}
 use Rattle.verdict.proofs.Judging.{Kept}
@@ -45,6 +45,7 @@ use Rattle.matrixwriter.specs.Writing.{writerRows as matrixRows}
 use Rattle.matrixwriter.proofs.RoundTrip.{writer-accepts as matrix-accepts}
 use Rattle.arraywriter.specs.Given.{meaningGiven as arrayGiven, writerRows as arrayRows}
 use Rattle.arraywriter.proofs.RoundTrip.{writer-accepts as array-accepts}
+use Rattle.theorems.specs.Paper.{PaperBy}
 use Rattle.gateway.specs.Answers.{PackedBy, addressed, addressedOf}
 use Rattle.gateway.specs.Listing.{FieldsBy, NumbersBy}
 use Rattle.gateway.specs.Writing.{fieldsGiven, numberRows, MatrixWritten, ArrayWritten}
@@ -66,13 +67,6 @@ use Rattle.gateway.proofs.array_address.Kinds as array-address
 use Rattle.gateway.proofs.array_address.Reads as array-address-reads
 use Rattle.gateway.proofs.array_write.Kinds as array-write
 use Rattle.gateway.proofs.array_write.Reads as array-write-reads
-
--- document 01's number of an answer that the call inside may give, each of whose values is within its field
-pub record PaperBy (May : Verdict → Type 0) (number : ℕ) : Type 0 where
-  pub answer : Verdict
-  pub given : May answer
-  pub paper : number ≡ paperOf answer
-  pub within : Occurs answer
 
 paper-by : (May : Verdict → Type 0) (number : ℕ) → PackedBy May number → ((answer : Verdict) → May answer → Occurs answer) → PaperBy May number
 paper-by May number p occurs =

@@ -1,31 +1,21 @@
 -- From the calls to demand 3 in one step: the verdict that a call answers, by its contract as the source states it, is said of the packs, and no other is. Assumes nothing.
-use Prim.Native.Nat.{ℕ}
-use mathlib.Core.Path.{_≡_, sym, subst, _∙_}
-use mathlib.Core.List.{List}
+use mathlib.Core.Path.{sym, subst, _∙_}
 use contract.Lifetimes.{Lfts}
 use borrow.Fn.Kinds.{Dens, resT, endedOf}
 use denote.Triple.Clauses.{AtExit}
 use denote.Ref.{now}
-use Rattle.verdict.specs.declared.Reason.{Reason}
-use Rattle.verdict.specs.declared.Verdict.{Verdict}
 use Rattle.verdict.specs.Says.{Bytes, Says}
+use Rattle.theorems.specs.Said.{SaidAlone}
 use Rattle.matrix.specs.Pack.{MatrixPack}
 use Rattle.matrix.specs.Table.{Why as MatrixWhy}
-use Rattle.matrix.specs.Machine.{verdictOf as matrixVerdict}
 use Rattle.matrix.proofs.Verdicts.{matrix-said, matrix-only}
 use Rattle.matrixreader.proofs.verdict.Kinds as matrix
 use Rattle.matrixreader.proofs.verdict.Reads as matrix-reads
 use Rattle.array.specs.Spelling.{ArrayPack}
 use Rattle.array.specs.Table.{Why as ArrayWhy}
-use Rattle.array.specs.Machine.{verdictOf as arrayVerdict}
 use Rattle.array.proofs.Verdicts.{array-said, array-only}
 use Rattle.arrayreader.proofs.verdict.Kinds as array
 use Rattle.arrayreader.proofs.verdict.Reads as array-reads
-
--- a verdict is said of the bytes, and no other is
-pub record SaidAlone (Pack : List ℕ → Type 0) (Why : List ℕ → Reason → Type 0) (bytes : List ℕ) (verdict : Verdict) : Type 0 where
-  pub said : Says Pack Why bytes verdict
-  pub alone : (other : Verdict) → Says Pack Why bytes other → other ≡ verdict
 
 -- what `matrixreader::verdict` answers
 pub matrix-verdict-said : (κs : Lfts 1) (a : Dens κs matrix.ps) (answer : resT matrix.r κs .Denot) (s : AtExit (endedOf 1 matrix.ps matrix.r) κs)

@@ -20,40 +20,9 @@ use Rattle.text.specs.Text.{decimalIn, decimal}
 use Rattle.report.specs.Line.{lineAnswer}
 use Rattle.report.specs.Report.{reportOf, closed, answers}
 use Rattle.report.proofs.Lines.{Unclosed, lines-report}
+use Rattle.theorems.specs.Sample.{line1, line2, line3, line4, said1, said2, said3, said4}
 
--- ---- the sample, line by line, in ASCII
-
--- 060E2B34020501010E010303210000000401801105
-abbrev line1 : List ℕ
-line1 = 48 ∷ 54 ∷ 48 ∷ 69 ∷ 50 ∷ 66 ∷ 51 ∷ 52 ∷ 48 ∷ 50 ∷ 48 ∷ 53 ∷ 48 ∷ 49 ∷ 48 ∷ 49 ∷ 48 ∷ 69 ∷ 48 ∷ 49 ∷ 48 ∷ 51 ∷ 48 ∷ 51 ∷ 50 ∷ 49 ∷ 48 ∷ 48 ∷ 48 ∷ 48 ∷ 48 ∷ 48 ∷ 48 ∷ 52 ∷ 48 ∷ 49 ∷ 56 ∷ 48 ∷ 49 ∷ 49 ∷ 48 ∷ 53 ∷ []
-
--- 1 S OK 4 0
-abbrev said1 : List ℕ
-said1 = 49 ∷ 32 ∷ 83 ∷ 32 ∷ 79 ∷ 75 ∷ 32 ∷ 52 ∷ 32 ∷ 48 ∷ []
-
--- 060E2B34020501010E0103030600000003010181
-abbrev line2 : List ℕ
-line2 = 48 ∷ 54 ∷ 48 ∷ 69 ∷ 50 ∷ 66 ∷ 51 ∷ 52 ∷ 48 ∷ 50 ∷ 48 ∷ 53 ∷ 48 ∷ 49 ∷ 48 ∷ 49 ∷ 48 ∷ 69 ∷ 48 ∷ 49 ∷ 48 ∷ 51 ∷ 48 ∷ 51 ∷ 48 ∷ 54 ∷ 48 ∷ 48 ∷ 48 ∷ 48 ∷ 48 ∷ 48 ∷ 48 ∷ 51 ∷ 48 ∷ 49 ∷ 48 ∷ 49 ∷ 56 ∷ 49 ∷ []
-
--- 2 M CUT 130 0
-abbrev said2 : List ℕ
-said2 = 50 ∷ 32 ∷ 77 ∷ 32 ∷ 67 ∷ 85 ∷ 84 ∷ 32 ∷ 49 ∷ 51 ∷ 48 ∷ 32 ∷ 48 ∷ []
-
--- 060E2B34020501010E010303210000000402910081
-abbrev line3 : List ℕ
-line3 = 48 ∷ 54 ∷ 48 ∷ 69 ∷ 50 ∷ 66 ∷ 51 ∷ 52 ∷ 48 ∷ 50 ∷ 48 ∷ 53 ∷ 48 ∷ 49 ∷ 48 ∷ 49 ∷ 48 ∷ 69 ∷ 48 ∷ 49 ∷ 48 ∷ 51 ∷ 48 ∷ 51 ∷ 50 ∷ 49 ∷ 48 ∷ 48 ∷ 48 ∷ 48 ∷ 48 ∷ 48 ∷ 48 ∷ 52 ∷ 48 ∷ 50 ∷ 57 ∷ 49 ∷ 48 ∷ 48 ∷ 56 ∷ 49 ∷ []
-
--- 3 S BAD 11 3
-abbrev said3 : List ℕ
-said3 = 51 ∷ 32 ∷ 83 ∷ 32 ∷ 66 ∷ 65 ∷ 68 ∷ 32 ∷ 49 ∷ 49 ∷ 32 ∷ 51 ∷ []
-
--- 060E2B
-abbrev line4 : List ℕ
-line4 = 48 ∷ 54 ∷ 48 ∷ 69 ∷ 50 ∷ 66 ∷ []
-
--- 4 - OPEN 0 0
-abbrev said4 : List ℕ
-said4 = 52 ∷ 32 ∷ 45 ∷ 32 ∷ 79 ∷ 80 ∷ 69 ∷ 78 ∷ 32 ∷ 48 ∷ 32 ∷ 48 ∷ []
+-- ---- the sample
 
 -- whether no character is LF
 abbrev clear : List ℕ → Bool

@@ -3,7 +3,7 @@ use Prim.Native.Nat.{ℕ, _+_, _*_}
 use mathlib.Core.Path.{_≡_, ap, sym, subst, _∙_}
 use mathlib.Core.Bool.{true}
 use mathlib.Core.List.{List, [], _++_, append-nil}
-use lib.ListN.{length, take, drop}
+use lib.ListN.{length, take, drop, replicate}
 use lib.Seq.{take-at}
 use Rattle.matrix.specs.declared.Fields.{Fields}
 use Rattle.matrix.specs.Meaning.{Matrix, Lawful, sum}
@@ -12,20 +12,7 @@ use Rattle.matrix.specs.Pack.{MatrixPack}
 use Rattle.matrix.proofs.BitVector.{length-packed}
 use Rattle.matrix.proofs.Decoding.{meaning-back, pack-length}
 use Rattle.unpack.proofs.Stored.{vector-ones}
-use lib.ListN.{replicate}
-
--- the bytes of a pack that hold the vector
-abbrev pub vectorOf : List ℕ → List ℕ
-vectorOf w = take (vectorBytes (fieldsOf w)) (drop 3 w)
-
--- how many bits of the vector are 1
-abbrev pub onesIn : List ℕ → ℕ
-onesIn w = sum (bits (vectorOf w))
-
--- so many coefficients are stored, and the length is what stands before the vector, the vector, N deviations, and those coefficients
-pub record StoredBy (w : List ℕ) (m : Matrix) : Type 0 where
-  pub stored : onesIn w ≡ sum (m .marks)
-  pub counted : length w ≡ 3 + (vectorBytes (fieldsOf w) + (fieldsOf w .n * fieldsOf w .slen + onesIn w * fieldsOf w .clen))
+use Rattle.theorems.specs.Stored.{vectorOf, onesIn, StoredBy}
 
 lawful-stored : (m : Matrix) → Lawful m → fieldsOf (bytesOf m) .cs ≡ true → StoredBy (bytesOf m) m
 lawful-stored m g sparse =

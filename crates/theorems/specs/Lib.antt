@@ -1,0 +1,5 @@
+pub mod Said
+pub mod Paper
+pub mod Stored
+pub mod Rows
+pub mod Sample
