@@ -15,7 +15,7 @@ pub struct Rule {
 
 impl Rule {
     // Whether a word keeps the rule.
-    pub fn admits(self, word: u64) -> bool
+    fn admits(self, word: u64) -> bool
         ensures { λ r. ⌜ r ≡ admitted self word ⌝ }
     {
         if self.sign <= word {
@@ -46,13 +46,13 @@ impl Half {
         greatest: Half::ONE,
     };
 
-    pub fn deviation(word: u64) -> bool
+    fn deviation(word: u64) -> bool
         ensures { λ r. ⌜ r ≡ admitted (deviations half) word ⌝ }
     {
         Half::DEVIATIONS.admits(word)
     }
 
-    pub fn coefficient(word: u64) -> bool
+    fn coefficient(word: u64) -> bool
         ensures { λ r. ⌜ r ≡ admitted (coefficients half) word ⌝ }
     {
         Half::COEFFICIENTS.admits(word)
@@ -79,13 +79,13 @@ impl Single {
         greatest: Single::ONE,
     };
 
-    pub fn deviation(word: u64) -> bool
+    fn deviation(word: u64) -> bool
         ensures { λ r. ⌜ r ≡ admitted (deviations single) word ⌝ }
     {
         Single::DEVIATIONS.admits(word)
     }
 
-    pub fn coefficient(word: u64) -> bool
+    fn coefficient(word: u64) -> bool
         ensures { λ r. ⌜ r ≡ admitted (coefficients single) word ⌝ }
     {
         Single::COEFFICIENTS.admits(word)
@@ -112,13 +112,13 @@ impl Double {
         greatest: Double::ONE,
     };
 
-    pub fn deviation(word: u64) -> bool
+    fn deviation(word: u64) -> bool
         ensures { λ r. ⌜ r ≡ admitted (deviations double) word ⌝ }
     {
         Double::DEVIATIONS.admits(word)
     }
 
-    pub fn coefficient(word: u64) -> bool
+    fn coefficient(word: u64) -> bool
         ensures { λ r. ⌜ r ≡ admitted (coefficients double) word ⌝ }
     {
         Double::COEFFICIENTS.admits(word)
