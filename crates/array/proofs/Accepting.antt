@@ -15,7 +15,8 @@ use Rattle.number.proofs.Octet.{Does, ends, goes, fails, does, effect-ends, eff
 use Rattle.number.proofs.Octets.{Begun, none as nothing, more as further, begun, high-none, high-more, octets-more}
 use Rattle.array.specs.Meaning.{product, most}
 use Rattle.array.specs.Spelling.{ArrayPack}
-use Rattle.array.specs.Table.{Field, dims, size, element, processing, limit, positive, number, body, enter, behind, behindEffect, move}
+use Rattle.array.specs.Table.{Field, dims, size, element, processing, limit, positive}
+use Rattle.array.specs.Machine.{number, body, enter, behind, behindEffect, move}
 use Rattle.array.proofs.Products.{Positive, product-positive}
 use Rattle.array.proofs.Keeping.{limit-product}
 

@@ -18,8 +18,8 @@ use Rattle.number.specs.declared.Drawn.the-variants.{Number, Cut, Refused as Dr
 use Rattle.number.specs.Octet.{effectOf}
 use Rattle.number.specs.Draw.{after, drawOn, drawAt}
 use Rattle.number.proofs.Drawing.{draw-past-end, draw-octet}
-use Rattle.array.specs.Table.{Field, limit, positive, reasonIn, number, body, enter, behind, behindEffect, move}
-use Rattle.array.specs.Machine.{least, verdictAt, verdictBehind}
+use Rattle.array.specs.Table.{Field, limit, positive}
+use Rattle.array.specs.Machine.{reasonIn, number, body, enter, behind, behindEffect, move, least, verdictAt, verdictBehind}
 
 module _ (bytes : List ℕ) where
   -- the verdict by what drawing a field's number found

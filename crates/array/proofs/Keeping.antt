@@ -9,8 +9,8 @@ use Rattle.verdict.specs.Machine.{on, Falls, Nears, Laws}
 use Rattle.number.specs.declared.Effect.{Effect}
 use Rattle.number.proofs.Octet.{Does, ends, goes, fails, does, effect-ends}
 use Rattle.array.specs.Meaning.{most}
-use Rattle.array.specs.Table.{Field, dims, size, element, processing, limit, positive, State, number, body, enter, behind, behindSize, behindEffect, move}
-use Rattle.array.specs.Machine.{least, GoodField, Good}
+use Rattle.array.specs.Table.{Field, dims, size, element, processing, limit, positive}
+use Rattle.array.specs.Machine.{State, number, body, enter, behind, behindSize, behindEffect, move, least, GoodField, Good}
 
 -- a value that keeps its limit keeps the product's
 pub limit-product : (product x : ℕ) → 1 ≤ product → x ≤ most / product → product * x ≤ most

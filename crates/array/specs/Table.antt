@@ -1,16 +1,13 @@
--- Document 01's table for array packs: the rules of an octet, by the number that it stands in.
-use Prim.Native.Nat.{ℕ, zero, suc, _-_, _*_, _/_}
-use mathlib.Core.Bool.{Bool, true, false, cond}
-use mathlib.Core.List.{List}
-use lib.Dec.{eqb}
+-- Document 01's table for array packs: the rules of the last of some bytes, by the number in which it falls, with the reason where one is broken.
+use Prim.Native.Nat.{ℕ, _+_, _-_, _*_, _/_, suc}
+use mathlib.Core.Bool.{Bool, true, false, _&&_, cond}
+use mathlib.Core.List.{List, [], _∷_, _++_}
+use lib.Dec.{eqb, ltb}
+use lib.ListN.{length, take, drop}
 use Rattle.verdict.specs.declared.Reason.{Reason}
-use Rattle.verdict.specs.declared.Reason.the-variants.{Processing}
-use Rattle.verdict.specs.Numbers.{numberOf}
-use Rattle.verdict.specs.Machine.{Move, on, done, bad, Blames}
-use Rattle.number.specs.declared.Effect.{Effect}
-use Rattle.number.specs.declared.Effect.the-variants.{Ends, GoesOn, Refused}
-use Rattle.number.specs.Octet.{effectOf}
-use Rattle.array.specs.Meaning.{most}
+use Rattle.verdict.specs.declared.Reason.the-variants.{Zero, TooLarge, PaddedNumber, Processing}
+use Rattle.verdict.specs.Rows.{Row, Blamed}
+use Rattle.array.specs.Meaning.{product, most}
 
 -- the numbers of a pack: NDim; a size with so many sizes behind it and this product of those before it; E, and processing, with the
 -- count of elements, or of bytes, before them
@@ -34,46 +31,69 @@ positive (size more product) = true
 positive (element product) = false
 positive (processing total) = true
 
--- a number's reason in its field: above the limit, where a number has 2, processing has 12
-abbrev pub reasonIn : Field → Reason → Reason
-reasonIn dims reason = reason
-reasonIn (size more product) reason = reason
-reasonIn (element product) reason = reason
-reasonIn (processing total) reason = cond (eqb (numberOf reason) 2) Processing reason
+-- above its limit a number is refused 2, processing 12
+abbrev pub over : Field → Reason
+over dims = TooLarge
+over (size more product) = TooLarge
+over (element product) = TooLarge
+over (processing total) = Processing
 
--- where bytes stand: within a number begun with a value, 0 before its first octet, or in the array with so many bytes behind the next one
-pub data State : Type 0 where
-  number : Field → ℕ → State
-  body : ℕ → State
+-- the smallest number of octets with this value and one octet more: below 0x80 it is the last, behind any other the smallest ending is one octet 0x00
+abbrev pub smallest : ℕ → ℕ → ℕ
+smallest value octet = cond (ltb octet 0x80) (value * 128 + octet) ((value * 128 + (octet - 0x80)) * 128)
 
--- into the array, or done where it has no bytes
-abbrev pub enter : ℕ → Move State
-enter zero = done
-enter (suc more) = on (body more)
+-- the rules of an octet, behind octets of its number with this value, 0 where there are none: 1 for a number 0 that must be 1 or more,
+-- 3 for a first octet 0x80, 2 or 12 where even the smallest ending breaks the limit
+abbrev pub octetRows : Field → ℕ → ℕ → List Row
+octetRows field value octet =
+    record { broken = positive field && (eqb value 0 && eqb octet 0); reason = Zero }
+    ∷ record { broken = eqb value 0 && eqb octet 0x80; reason = PaddedNumber }
+    ∷ record { broken = ltb (limit field) (smallest value octet); reason = over field }
+    ∷ []
 
--- behind a size, with this product: the next size, or E
-abbrev pub behindSize : ℕ → ℕ → Move State
-behindSize zero product = on (number (element product) 0)
-behindSize (suc more) product = on (number (size more product) 0)
+-- some bytes as octets: the numbers that are whole, and the value of the octets begun behind them
+pub record Begun : Type 0 where
+  pub numbers : List ℕ
+  pub value : ℕ
 
--- behind a number of this value
-abbrev pub behind : Field → ℕ → Move State
-behind dims value = on (number (size (value - 1) 1) 0)
-behind (size more product) value = behindSize more (product * value)
-behind (element product) value = on (number (processing (product * value)) 0)
-behind (processing total) value = enter total
+-- one octet more: below 0x80 it ends its number
+abbrev pub withOctet : Begun → ℕ → Begun
+withOctet begun octet =
+    cond (ltb octet 0x80) (record { numbers = begun .numbers ++ ((begun .value * 128 + octet) ∷ []); value = 0 })
+    (record { numbers = begun .numbers; value = begun .value * 128 + (octet - 0x80) })
 
--- an octet ends its field's number, goes on with it, or is refused
-abbrev pub behindEffect : Field → Effect → Move State
-behindEffect field (Ends value) = behind field value
-behindEffect field (GoesOn value) = on (number field value)
-behindEffect field (Refused reason) = bad (reasonIn field reason)
+-- what a byte falls in: a number of a field, or the array
+pub data Part : Type 0 where
+  field : Field → Part
+  array : Part
 
--- what a byte does where bytes stand: an octet by the rules of numbers with its field's limits, a byte of the array by none
-abbrev pub move : State → ℕ → Move State
-move (number field value) octet = behindEffect field (effectOf octet value (positive field) (limit field))
-move (body more) b = enter more
+-- behind sizes of this product and these numbers: E, then processing, then the array
+abbrev pub partBehindSizes : ℕ → List ℕ → Part
+partBehindSizes product [] = field (element product)
+partBehindSizes product (e ∷ []) = field (processing (product * e))
+partBehindSizes product (e ∷ one ∷ numbers) = array
 
--- the table: the reason why the last of some bytes is refused, by where the others lead
+-- behind these numbers: NDim, then as many sizes as it says, then what stands behind them
+abbrev pub partBehind : List ℕ → Part
+partBehind [] = field dims
+partBehind (count ∷ numbers) =
+    cond (ltb (length numbers) count) (field (size (count - suc (length numbers)) (product numbers)))
+    (partBehindSizes (product (take count numbers)) (drop count numbers))
+
+-- the rules of a byte in its part: the array has none
+abbrev pub rowsIn : Part → ℕ → ℕ → List Row
+rowsIn (field f) value octet = octetRows f value octet
+rowsIn array value octet = []
+
+-- the rules for the last of some bytes, behind those that have begun so
+unfoldable pub rowsBehind : Begun → List ℕ → List Row
+rowsBehind begun [] = []
+rowsBehind begun (octet ∷ []) = rowsIn (partBehind (begun .numbers)) (begun .value) octet
+rowsBehind begun (octet ∷ b ∷ w) = rowsBehind (withOctet begun octet) (b ∷ w)
+
+abbrev pub rowsOf : List ℕ → List Row
+rowsOf w = rowsBehind (record { numbers = []; value = 0 }) w
+
+-- the table: the reason why the last of some bytes is refused
 abbrev pub Why : List ℕ → Reason → Type 0
-Why w reason = Blames move (number dims 0) w reason
+Why w reason = Blamed (rowsOf w) reason

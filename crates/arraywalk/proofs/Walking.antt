@@ -31,8 +31,8 @@ use Rattle.arraywalk.specs.declared.Walked.{Walked}
 use Rattle.arraywalk.specs.declared.Walked.the-variants.{Whole, Unfinished as WalkedUnfinished, Refused as WalkedRefused}
 use Rattle.array.specs.Meaning.{product, most}
 use Rattle.array.specs.Decoded.{sizesIn, elementIn, meaningOf}
-use Rattle.array.specs.Table.{Field, dims, size, element, processing, State, number, behindSize, move}
-use Rattle.array.specs.Machine.{least, verdictOf, verdictBehind}
+use Rattle.array.specs.Table.{Field, dims, size, element, processing}
+use Rattle.array.specs.Machine.{State, number, behindSize, move, least, verdictOf, verdictBehind}
 use Rattle.arraywalk.specs.Walk.{behindSizes, DimsTo, SizedTo, ElementTo, ProcessedTo, FoundIn, WalkFrom, walkedFor, walkedOf}
 use Rattle.array.proofs.Keeping.{limit-product}
 use Rattle.array.proofs.Drawing.{drawnVerdict, number-drawn, body-whole}

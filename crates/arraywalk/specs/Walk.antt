@@ -21,8 +21,8 @@ use Rattle.arraywalk.specs.declared.Walked.{Walked}
 use Rattle.arraywalk.specs.declared.Walked.the-variants.{Whole, Unfinished as WalkedUnfinished, Refused as WalkedRefused}
 use Rattle.array.specs.Meaning.{product, most}
 use Rattle.array.specs.Decoded.{sizesIn, elementIn, meaningOf}
-use Rattle.array.specs.Table.{State, number, size, element, processing, enter}
-use Rattle.array.specs.Machine.{verdictOf, verdictAt, verdictBehind}
+use Rattle.array.specs.Table.{size, element, processing}
+use Rattle.array.specs.Machine.{State, number, enter, verdictOf, verdictAt, verdictBehind}
 
 -- where the machine stands behind so many of the sizes: before the next one, or before E
 abbrev pub behindSizes : ℕ → ℕ → ℕ → State

@@ -1,6 +1,7 @@
 -- `arraywalk::processing_reason` meets its contract. Assumes nothing.
 use mathlib.Core.Path.{ap}
-use Rattle.array.specs.Table.{number, processing, move}
+use Rattle.array.specs.Table.{processing}
+use Rattle.array.specs.Machine.{number, move}
 use Rattle.arraywalk.proofs.Walking.{processing-large}
 use Rattle.arraywalk.proofs.processing_reason.Statement.{statement}
 use Rattle.arraywalk.proofs.processing_reason.Tie as tie
