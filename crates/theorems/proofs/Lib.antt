@@ -2,3 +2,4 @@ pub mod Said
 pub mod Frames
 pub mod Paper
 pub mod Stored
+pub mod ArrayTrip
