@@ -1,7 +1,7 @@
 -- An array through the calls, by their contracts as the source states them: what `read` answers is written again byte for byte, and what was written is read and addressed again. Assumes nothing.
 use Prim.Native.Nat.{ℕ, _+_, _-_, _*_, _≤_}
 use mathlib.Core.Path.{_≡_, refl, sym, ap, ap₂, subst, _∙_}
-use mathlib.Core.Bool.{true, false}
+use mathlib.Core.Bool.{true}
 use mathlib.Core.List.{List, [], _∷_, _++_, append-assoc}
 use native.Mathlib.Nat.{mul-le-mul-right}
 use native.Mathlib.Omega.{arith}
@@ -11,10 +11,9 @@ use denote.Triple.Clauses.{AtExit}
 use denote.Ref.{now}
 use lib.ListN.{length, take, drop, length-append, length-drop, take-append-drop}
 use lib.Seq.{slice, length-slice, length-take-le, take-at, drop-at, drop-drop, take-append-le, drop-append-le}
-use Rattle.verdict.specs.declared.Reason.the-variants.{Index}
 use Rattle.verdict.specs.declared.Verdict.{Verdict}
 use Rattle.verdict.specs.declared.Verdict.the-variants.{Complete, Unfinished, Refused}
-use Rattle.verdict.specs.Says.{Bytes, CompleteAt, Says}
+use Rattle.verdict.specs.Says.{Bytes, Says}
 use Rattle.verdict.specs.Writing.{WrittenBy}
 use Rattle.verdict.proofs.Deciding.{written-complete}
 use Rattle.number.specs.Octets.{octets, numbers}
@@ -29,11 +28,9 @@ use Rattle.array.proofs.Decoding.{meaning-back}
 use Rattle.array.proofs.Complete.{complete-meaning, complete-count}
 use Rattle.array.proofs.Offsets.{offset-below}
 use Rattle.arrayreader.specs.declared.Sizes.{Sizes}
-use Rattle.arrayreader.specs.declared.Answer.{Answer}
-use Rattle.arrayreader.specs.declared.Answer.the-variants.{Array, Unfinished as AnswerUnfinished, Refused as AnswerRefused}
-use Rattle.arrayreader.specs.declared.Addressed.{Addressed}
-use Rattle.arrayreader.specs.declared.Addressed.the-variants.{Offset, Refused as AddressedRefused}
+use Rattle.arrayreader.specs.declared.Answer.the-variants.{Array}
 use Rattle.arrayreader.specs.Reading.{sizesOf, readFor, readOf, addressIn, addressFor, addressOf}
+use Rattle.theorems.specs.ArrayTrip.{sizesListed, arrayRead, ReadAs, ReadSays, WrittenAgain, ReadAgain, AddressedAs}
 use Rattle.arrayreader.proofs.read.Kinds as read
 use Rattle.arrayreader.proofs.read.Reads as read-reads
 use Rattle.arrayreader.proofs.address.Kinds as address
@@ -43,29 +40,7 @@ use Rattle.arraywriter.proofs.RoundTrip.{writer-accepts, read-written}
 use Rattle.arraywriter.proofs.write.Kinds as write
 use Rattle.arraywriter.proofs.write.Reads as write-reads
 
--- ---- what an answer says
-
--- the sizes that an answer lists: the first NDim of its eight
-abbrev pub sizesListed : ℕ → Sizes → List ℕ
-sizesListed dims s = take dims (s .one ∷ s .two ∷ s .three ∷ s .four ∷ s .five ∷ s .six ∷ s .seven ∷ s .eight ∷ [])
-
--- these sizes, E, and the bytes from the start to the end
-abbrev pub arrayRead : List ℕ → ℕ → Sizes → ℕ → ℕ → ℕ → Meant
-arrayRead bytes dims sizes element start end = record { sizes = sizesListed dims sizes; element = element; body = slice start end bytes }
-
--- an array that was read: it is lawful, it is what the bytes mean, and they begin with its bytes, which end at the end
-pub record ReadAs (bytes : List ℕ) (array : Meant) (start end : ℕ) : Type 0 where
-  pub complete : CompleteAt ArrayPack bytes end
-  pub begins : start ≤ end
-  pub lawful : Lawful array
-  pub means : meaningOf bytes ≡ array
-  pub spelled : bytesOf array ≡ take end bytes
-
--- what each answer of `read` says of the bytes
-abbrev pub ReadSays : List ℕ → Answer → Type 0
-ReadSays bytes (Array dims sizes element start end) = ReadAs bytes (arrayRead bytes dims sizes element start end) start end
-ReadSays bytes (AnswerUnfinished missing) = Says ArrayPack Why bytes (Unfinished missing)
-ReadSays bytes (AnswerRefused refusal) = Says ArrayPack Why bytes (Refused refusal)
+-- ---- what `read` answers
 
 -- at most eight sizes are listed as they were
 listed-back : (l : List ℕ) → length l ≤ 8 → sizesListed (length l) (sizesOf l) ≡ l
@@ -120,11 +95,6 @@ read-says κs a answer s b post = subst (ReadSays (now (a .0))) (sym post) (verd
 
 -- ---- read, and written again
 
--- the pack's own bytes stand at the front of the buffer, and what was behind them stays
-pub record WrittenAgain (bytes : List ℕ) (end : ℕ) (out : List ℕ) (answer : Verdict) (out′ : List ℕ) : Type 0 where
-  pub answered : answer ≡ Complete end
-  pub left : out′ ≡ take end bytes ++ drop end out
-
 module _ (bytes : List ℕ) (b : Bytes bytes) (array : Meant) (start end : ℕ) (r : ReadAs bytes array start end) where
   again : (given : Meant) → given ≡ array → (out : List ℕ) → end ≤ length out → (answer : Verdict) (out′ : List ℕ) → WrittenBy (writerRows (given .sizes) (given .element) (given .body) out) (bytesOf given) out 0 answer out′ → WrittenAgain bytes end out answer out′
   again given e out room answer out′ w =
@@ -168,23 +138,6 @@ written-begins array out n out′ bytes b w same =
       parts = sym (take-append-drop n bytes) ∙ ap (λ (l : List ℕ). l ++ drop n bytes) (same ∙ front);
     }
 
--- the answer of `read`: the sizes and E that were given, and the array from the start to the end; the array is the last of the pack
-pub record ReadAgain (array : Meant) (n : ℕ) (bytes : List ℕ) (answer : Answer) : Type 0 where
-  pub dims : ℕ
-  pub listed : Sizes
-  pub answered : answer ≡ Array dims listed (array .element) (n - length (array .body)) n
-  pub same-sizes : sizesListed dims listed ≡ array .sizes
-  pub same-array : slice (n - length (array .body)) n bytes ≡ array .body
-
--- the answer of `address` on bytes whose array begins at a start: 15 outside, and inside the offset of an element, whose bytes there are those of the array
-pub record AddressedAs (array : Meant) (start : ℕ) (bytes indices : List ℕ) (answer : Addressed) : Type 0 where
-  pub outside : inside (array .sizes) indices ≡ false → answer ≡ AddressedRefused (record { reason = Index; place = 0 })
-  pub offered : inside (array .sizes) indices ≡ true → answer ≡ Offset (offset (array .sizes) indices * array .element)
-  pub within : inside (array .sizes) indices ≡ true → offset (array .sizes) indices * array .element + array .element ≤ length (array .body)
-  pub same-element : inside (array .sizes) indices ≡ true
-      → take (array .element) (drop (start + offset (array .sizes) indices * array .element) bytes)
-      ≡ take (array .element) (drop (offset (array .sizes) indices * array .element) (array .body))
-
 -- a part of a part is a part of the whole
 part-of-part : (bytes : List ℕ) (start n at count : ℕ) → n ≤ length bytes → start + at + count ≤ n → take count (drop (start + at) bytes) ≡ take count (drop at (slice start n bytes))
 part-of-part bytes start n at count h l =
@@ -209,7 +162,6 @@ module _ (array : Meant) (n : ℕ) (bytes : List ℕ) (x : Begins array n bytes)
   again-read : ReadAgain array n bytes (readOf bytes)
   again-read =
       record {
-        dims = length (array .sizes);
         listed = sizesOf (array .sizes);
         answered =
             ap (readFor bytes) again-complete
@@ -235,10 +187,13 @@ module _ (array : Meant) (n : ℕ) (bytes : List ℕ) (x : Begins array n bytes)
         record {
           outside = λ h. answer ∙ rw h;
           offered = λ h. answer ∙ rw h;
-          within = again-within;
-          same-element = λ h.
-              part-of-part bytes (n - length (array .body)) n at (array .element) whole (omega (arith, again-within h, x .counted))
-              ∙ ap (λ (l : List ℕ). take (array .element) (drop at l)) again-there;
+          stands = λ h.
+              record {
+                within = again-within h;
+                same-bytes =
+                    part-of-part bytes (n - length (array .body)) n at (array .element) whole (omega (arith, again-within h, x .counted))
+                    ∙ ap (λ (l : List ℕ). take (array .element) (drop at l)) again-there;
+              };
         }
 
 -- the array that `write` is given
