@@ -7,7 +7,7 @@ use lib.ListN.{length}
 use Rattle.verdict.specs.declared.Verdict.{Verdict}
 use Rattle.verdict.specs.declared.Verdict.the-variants.{Complete, Unfinished, Refused}
 use Rattle.verdict.specs.Stated.{refuses, statedVerdict}
-use Rattle.number.proofs.Stating.{stated-at, misses-one, gives-no-misses, gives-no-refusal, misses-no-refusal, refusal-stated}
+use Rattle.verdict.proofs.Stating.{stated-at, misses-one, gives-no-misses, gives-no-refusal, misses-no-refusal, refusal-stated}
 use Rattle.array.specs.Decoded.{meaningOf}
 use Rattle.array.specs.Offsets.{inside, offset}
 use Rattle.array.specs.Machine.{verdictOf}

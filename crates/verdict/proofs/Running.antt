@@ -16,18 +16,6 @@ nothing : (t : List ℕ) → length t ≡ 0 → t ≡ []
 nothing [] e = refl
 nothing (b ∷ t) e = absurd (omega arith)
 
-module _ {S : Type 0} (step : S → ℕ → Move S) where
-  -- a machine refuses the last of some bytes for one reason
-  pub blames-one : (s : S) (w : List ℕ) (r q : Reason) → Blames step s w r → Blames step s w q → r ≡ q
-  unfolding Blames
-  blames-one s [] r q x y = absurd x
-  blames-one s (b ∷ w) r q x y = go (step s b) x y (λ t. blames-one t w r q)
-    where
-      go : (m : Move S) → moved m (λ t. Blames step t w r) ⊥ (λ k. (w ≡ []) × (k ≡ r)) → moved m (λ t. Blames step t w q) ⊥ (λ k. (w ≡ []) × (k ≡ q)) → ((t : S) → Blames step t w r → Blames step t w q → r ≡ q) → r ≡ q
-      go (on t) x y ih = ih t x y
-      go done x y ih = absurd x
-      go (bad k) x y ih = sym (x .1) ∙ y .1
-
 module _ {S : Type 0} (step : S → ℕ → Move S) (least : S → ℕ) where
   -- a run over accepted bytes is complete at their count, whatever is appended
   pub accepted-complete : (w t : List ℕ) (s : S) → Accepts step s w → run step least s (w ++ t) ≡ Complete (length w)
