@@ -2,31 +2,24 @@
 use Prim.Native.Nat.{ℕ}
 use mathlib.Core.Path.{_≡_, refl}
 use mathlib.Core.Bool.{Bool, true, false, cond}
-use mathlib.Core.List.{List, [], _∷_, _++_}
+use mathlib.Core.List.{List, []}
 use lib.Dec.{ltb}
-use lib.ListN.{length, take, drop}
+use lib.ListN.{length, take}
 use Rattle.verdict.specs.declared.Judged.{Judged}
 use Rattle.verdict.specs.declared.Judged.the-variants.{Kept, Broken}
 use Rattle.verdict.specs.declared.Verdict.{Verdict}
 use Rattle.verdict.specs.declared.Verdict.the-variants.{Complete, Unfinished, Refused}
 use Rattle.verdict.specs.Numbers.{numberOf}
-use Rattle.verdict.specs.Stated.{Stated, gives, misses, refuses, statedVerdict}
-use Rattle.matrix.specs.Meaning.{sum}
-use Rattle.matrix.specs.Spelling.{vectorBytes, fieldsOf, marksOf}
-use Rattle.matrix.specs.Listed.{fieldNumbers}
+use Rattle.verdict.specs.Stated.{Stated, gives, misses, refuses}
 use Rattle.matrix.specs.Machine.{verdictOf}
-use Rattle.matrixhead.specs.Beginning.{before, begunFor, begunOf}
+use Rattle.matrixhead.specs.Beginning.{before, valuesOf, begunFor, begunOf}
 use Rattle.matrixhead.specs.Judging.{allowedBy}
 use Rattle.matrixhead.specs.Stated.{statedBegun, statedAllowed}
 
--- the fields of bytes, the place of the first word and how many coefficients are sent
-abbrev pub begunNumbers : List ℕ → List ℕ
-begunNumbers bytes = fieldNumbers (fieldsOf bytes) ++ (before bytes ∷ sum (marksOf (fieldsOf bytes) (take (vectorBytes (fieldsOf bytes)) (drop 3 bytes))) ∷ [])
-
--- these where what stands before the words is whole and not refused, else the verdict on it
+-- the fields, the place of the first word and how many are sent where what stands before the words is whole and not refused, else the verdict on it
 abbrev pub begunStates : List ℕ → Bool → Verdict → Stated
-begunStates bytes short (Complete n) = gives (begunNumbers bytes)
-begunStates bytes short (Unfinished missing) = cond short (misses missing) (gives (begunNumbers bytes))
+begunStates bytes short (Complete n) = statedBegun (valuesOf bytes)
+begunStates bytes short (Unfinished missing) = cond short (misses missing) (statedBegun (valuesOf bytes))
 begunStates bytes short (Refused refusal) = refuses (numberOf (refusal .reason)) (refusal .place)
 
 pub begun-states : (bytes : List ℕ) → statedBegun (begunOf bytes) ≡ begunStates bytes (ltb (length bytes) (before bytes)) (verdictOf (take (before bytes) bytes))

@@ -56,7 +56,7 @@ abbrev pub runOf : Rule → ℕ → Run
 runOf rule count = record { rule = rule; count = count }
 
 -- words of a form and its rule begin at a place, and are looked at up to another
-pub record Checked (bytes : List ℕ) (place until : ℕ) (rule : Rule) (form : Form) : Type 0 where
+pub record Checkable (bytes : List ℕ) (place until : ℕ) (rule : Rule) (form : Form) : Type 0 where
   pub sound : Sound rule
   pub some : 1 ≤ rule .length
   pub forward : place ≤ until

@@ -6,7 +6,7 @@ ghost use lib.Bits.{bitAnd};
 ghost use lib.ListN.{length as count, getD};
 ghost use Rattle.rule.specs.Rules.{Sound, cleared, ruleOf};
 ghost use Rattle.word.specs.Bytes.{wordAt};
-ghost use Rattle.matrixwalk.specs.Walk.{maskOf, LookedAt, Judges, Checked, Checks, SettledUnder, SettledBelow, SettledByTwo, PassedFrom};
+ghost use Rattle.matrixwalk.specs.Walk.{maskOf, LookedAt, Judges, Checkable, Checks, SettledUnder, SettledBelow, SettledByTwo, PassedFrom};
 use rule::rules::Form;
 use rule::rules::Rule;
 use verdict::Reason;
@@ -126,7 +126,7 @@ fn judge_word(
 
 // The byte of the words from a place on that breaks their rule, or `until` where none before that does, word by word.
 fn check_each(bytes: &[u8], place: usize, until: usize, rule: Rule, form: Form) -> usize
-    requires { ⌜ Checked (now bytes) place until rule form ⌝ }
+    requires { ⌜ Checkable (now bytes) place until rule form ⌝ }
     ensures { λ r. ⌜ Checks (now (bytes .entry)) place until rule r ⌝ }
 {
     let mask = mask_of(rule);
@@ -290,7 +290,7 @@ fn settled(bytes: &[u8], place: usize, until: usize, rule: Rule) -> bool
 
 // The byte of the words from a place on that breaks their rule, or `until` where none before that does.
 fn check(bytes: &[u8], place: usize, until: usize, rule: Rule, form: Form) -> usize
-    requires { ⌜ Checked (now bytes) place until rule form ⌝ }
+    requires { ⌜ Checkable (now bytes) place until rule form ⌝ }
     ensures { λ r. ⌜ Checks (now (bytes .entry)) place until rule r ⌝ }
 {
     if settled(bytes, place, until, rule) {

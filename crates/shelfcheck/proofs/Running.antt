@@ -50,7 +50,7 @@ record Stood (work : Work) (chunk line out input output : List ℕ) : Type 0 whe
   took : input ≡ taken ++ leftOf work chunk
   wrote : output ++ pending (work .ask) out ≡ came
   none-left : work .ask ≡ Read → leftOf work chunk ≡ []
-  since : (count : ℕ) → work .ask ≡ Write count → Before (work .number) output
+  since : (count : ℕ) → work .ask ≡ Write count → Before (work .number) input output
 
 -- ---- what is left of a chunk
 
@@ -105,7 +105,7 @@ module _ (work : Work) (chunk line out taken output : List ℕ) (long : longestL
           took = ap (λ (l : List ℕ). taken ++ l) (left-split work chunk state count written within) ∙ sym (append-assoc taken (take count part) (leftOf next chunk));
           wrote = refl;
           none-left = λ a. let z : _≡_ {A = ℕ} 0 1 = cc in absurd (omega arith);
-          since = λ k a. record { held = work .state .held; buffer = line; input = taken; calls = calls };
+          since = λ k a. record { taken = taken; rest = part; begins = refl; held = work .state .held; buffer = line; calls = calls };
         }
 
     -- none is refused: the memory is long enough
@@ -181,7 +181,7 @@ module _ (work : Work) (chunk line out input output : List ℕ) (worked : Worked
       ap (λ (l : List ℕ). l ++ openHeld (work .state .number) (work .state .held)) wrote ∙ calls-report (s .calls) ∙ ap reportOf (sym took)
 
   -- each time that a write is asked, it is the report lines of the lines before the one at which writing would fail
-  pub worked-before : (count : ℕ) → work .ask ≡ Write count → Before (work .number) output
+  pub worked-before : (count : ℕ) → work .ask ≡ Write count → Before (work .number) input output
   worked-before = worked-stood worked .since
 
   -- at the end of the input the open line's report line is to be written, and with it all is the report on the input; behind that write nothing more is asked

@@ -25,11 +25,13 @@ pub data Worked : Work → List ℕ → List ℕ → List ℕ → List ℕ → L
       → (work′ : Work) (line′ out′ : List ℕ) → AfterWrite work chunk line out work′ line′ out′ → Lent line out line′ out′ → Worked work′ chunk line′ out′ input (output ++ take count out)
 
 -- what was written is the report lines of the lines before this one, of some beginning of the input
-pub record Before (number : ℕ) (output : List ℕ) : Type 0 where
+pub record Before (number : ℕ) (input output : List ℕ) : Type 0 where
+  pub taken : List ℕ
+  pub rest : List ℕ
+  pub begins : input ≡ taken ++ rest
   pub held : ℕ
   pub buffer : List ℕ
-  pub input : List ℕ
-  pub calls : Calls number held buffer input output
+  pub calls : Calls number held buffer taken output
 
 -- the last write is asked, of a text of which something holds
 pub record Last (work : Work) (out : List ℕ) (Text : List ℕ → Type 0) : Type 0 where
