@@ -1,6 +1,6 @@
 -- The contract of each function of the work, as the source states it, admits one answer and one state of the lent memory. Assumes nothing.
 use Prim.Native.Nat.{ℕ}
-use mathlib.Core.Path.{_≡_, sym, ap, ap₂, _∙_}
+use mathlib.Core.Path.{_≡_, sym, ap, _∙_}
 use mathlib.Core.Bool.{Bool, true, false, cond}
 use mathlib.Core.List.{List}
 use lib.Dec.{eqb, leb}
@@ -10,11 +10,9 @@ use denote.Triple.Clauses.{AtExit}
 use denote.Ref.{now}
 use Rattle.verdict.specs.declared.Verdict.{Verdict}
 use Rattle.verdict.proofs.OneAnswer.{OneAnswer}
-use Rattle.report.specs.declared.feed.Feeding.{Feeding}
 use Rattle.report.proofs.Chunks.{fed-one}
-use Rattle.text.specs.declared.Failure.{Failure}
 use Rattle.shelfcheck.specs.declared.work.Work.{Work}
-use Rattle.shelfcheck.specs.Work.{chunkEnd, leftOf, behindFeed, FedLeft, Unfed, FedOn, verdictAsk, asking, Ended, chunkRead, AfterRead, Stopped, AfterWrite, Failed}
+use Rattle.shelfcheck.specs.Work.{chunkEnd, leftOf, behindFeed, FedLeft, Unfed, FedOn, verdictAsk, asking, Ended, chunkRead, AfterRead, Stopped, AfterWrite}
 use Rattle.shelfcheck.proofs.work.begin.Kinds as begin
 use Rattle.shelfcheck.proofs.work.begin.Reads as begin-reads
 use Rattle.shelfcheck.proofs.work.stop.Kinds as stop

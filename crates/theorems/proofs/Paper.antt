@@ -1,7 +1,7 @@
 -- The number that C gets is document 01's: of every call, the number is `paperOf` of its answer, and no field of it is held at its greatest. Assumes nothing.
 use Prim.Native.Nat.{ℕ, _*_, _^_, _≤_, _<_}
 use mathlib.Core.Path.{_≡_, refl, sym, subst, _∙_}
-use mathlib.Core.Bool.{Bool, true, false, cond}
+use mathlib.Core.Bool.{Bool, true, false}
 use mathlib.Core.List.{List, [], _∷_}
 use native.Mathlib.Nat.{mul-le-mul-right}
 use native.Mathlib.Omega.{arith}
@@ -43,7 +43,7 @@ use Rattle.unpack.specs.Unpacking.{saidFor, UnpackedBy, ExpandedBy}
 use Rattle.matrixcheck.specs.Given.{meaningGiven as matrixGiven}
 use Rattle.matrixwriter.specs.Writing.{writerRows as matrixRows}
 use Rattle.matrixwriter.proofs.RoundTrip.{writer-accepts as matrix-accepts}
-use Rattle.arraywriter.specs.Given.{meaningGiven as arrayGiven, writerRows as arrayRows}
+use Rattle.arraywriter.specs.Given.{meaningGiven as arrayGiven}
 use Rattle.arraywriter.proofs.RoundTrip.{writer-accepts as array-accepts}
 use Rattle.theorems.specs.Paper.{PaperBy}
 use Rattle.gateway.specs.Answers.{PackedBy, addressed, addressedOf}

@@ -7,7 +7,7 @@ use lib.ListN.{length, take, drop, replicate}
 use lib.Seq.{take-at}
 use Rattle.matrix.specs.declared.Fields.{Fields}
 use Rattle.matrix.specs.Meaning.{Matrix, Lawful, sum}
-use Rattle.matrix.specs.Spelling.{vectorBytes, packed, spelled, bits, fieldsOf, bytesOf, meaningOf}
+use Rattle.matrix.specs.Spelling.{vectorBytes, packed, spelled, bits, fieldsOf, bytesOf}
 use Rattle.matrix.specs.Pack.{MatrixPack}
 use Rattle.matrix.proofs.BitVector.{length-packed}
 use Rattle.matrix.proofs.Decoding.{meaning-back, pack-length}

@@ -1,12 +1,12 @@
 -- Laws of words below a limit, and of the bits that they have together. Assumes nothing.
 use Prim.Native.Nat.{ℕ, zero, suc, _+_, _*_, _^_, _≤_, _<_}
-use mathlib.Core.Path.{_≡_, refl, _∙_, sym, ap, ap₂}
+use mathlib.Core.Path.{_≡_, refl, _∙_, ap}
 use mathlib.Core.Bool.{Bool, true, false, not, _&&_, and-assoc}
 use mathlib.Core.List.{List, [], _∷_, _++_}
 use native.Mathlib.Omega.{arith}
 use native.Mathlib.Numerals.{add-one}
 use borrow.Author.Tests.{lt-ltb, le-ltb, ltb-true, ltb-false}
-use lib.Bits.{bitOr, bitAnd, or-lt, or-add-and, and-le-l, and-le-r}
+use lib.Bits.{bitOr, or-lt, or-add-and, and-le-l, and-le-r}
 use lib.Dec.{ltb}
 use lib.ListN.{length, take, getD}
 use lib.Pow.{pow-pos}
@@ -75,7 +75,7 @@ pub gathered-none : gathered [] ≡ 0
 unfolding gatheredOn
 gathered-none = refl
 
--- any word fits in eight bytes
+-- words are below a limit where each is
 pub all-below : (limit : ℕ) (words : List ℕ) → ((i : ℕ) → i < length words → getD words i 0 < limit) → allBelow limit words ≡ true
 unfolding allBelow
 all-below limit [] h = refl

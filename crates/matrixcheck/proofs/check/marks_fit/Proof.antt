@@ -1,6 +1,6 @@
 -- `matrixcheck::check::marks_fit` meets its contract. The loop's invariant: whether the first `i` marks fit. Assumes nothing.
 use Prim.Native.Nat.{_-_, _≤_, _<_, min}
-use mathlib.Core.Path.{_≡_, refl, _∙_}
+use mathlib.Core.Path.{_≡_, _∙_}
 use mathlib.Core.Bool.{_&&_, cond}
 use native.Mathlib.Omega.{arith}
 use denote.Ref.{now}

@@ -1,5 +1,5 @@
 -- `matrixcheck::check::words_fit` meets its contract: mapped words keep their rule where all their bits together do. Assumes nothing.
-use mathlib.Core.Path.{_≡_, sym, ap, _∙_}
+use mathlib.Core.Path.{sym, ap, _∙_}
 use borrow.Author.Needs.{needs}
 use denote.Ref.{now}
 use lib.Seq.{length-take-le}

@@ -1,5 +1,4 @@
 -- `rules::mapped_fits` meets its contract: a one shifted to its place is half of all words. Assumes nothing.
-use mathlib.Core.Path.{_∙_}
 use native.Mathlib.Omega.{arith}
 use borrow.Author.Needs.{needs}
 use Rattle.word.proofs.Digits.{one-shifted}

@@ -1,6 +1,5 @@
 -- `many::judge_words` meets its contract: behind 6 and 14, the words decide. Assumes nothing.
 use mathlib.Core.Path.{_≡_, refl, _∙_, sym}
-use mathlib.Core.Bool.{not}
 use lib.ListN.{length as count}
 use Rattle.verdict.specs.declared.Judged.the-variants.{Kept}
 use Rattle.verdict.specs.Judgement.{judgement}
