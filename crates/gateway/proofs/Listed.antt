@@ -17,7 +17,7 @@ use Rattle.arrayreader.specs.declared.Answer.{Answer as ArrayAnswer}
 use Rattle.arrayreader.specs.declared.Answer.the-variants.{Array, Unfinished as ArrayUnfinished, Refused as ArrayRefused}
 use Rattle.array.specs.Machine.{verdictOf as arrayVerdict}
 use Rattle.arrayreader.specs.Reading.{readFor as readArrayFor, readOf as readArray}
-use Rattle.unpack.specs.Unpacking.{over}
+use Rattle.verdict.specs.Lent.{over}
 use Rattle.gateway.specs.Listing.{ListedBy}
 
 module _ (numbers out : List ℕ) where

@@ -15,7 +15,7 @@ use Rattle.arrayreader.specs.declared.Answer.{Answer as ArrayAnswer}
 use Rattle.arrayreader.specs.declared.Answer.the-variants.{Array, Unfinished as ArrayUnfinished, Refused as ArrayRefused}
 use Rattle.array.specs.Machine.{verdictOf as arrayVerdict}
 use Rattle.arrayreader.specs.Reading.{readOf as readArray}
-use Rattle.unpack.specs.Unpacking.{saidFor, leftFor}
+use Rattle.verdict.specs.Lent.{saidFor, leftFor}
 
 -- NDim, eight sizes, E, start
 abbrev pub numbersOf : ℕ → Sizes → ℕ → ℕ → List ℕ

@@ -4,7 +4,7 @@ ghost use mathlib.Core.Bool.{cond};
 ghost use Prim.Native.Nat.{_≤_};
 ghost use lib.ListN.{length};
 ghost use Rattle.verdict.specs.declared.Verdict.the-variants.{Complete};
-ghost use Rattle.unpack.specs.Unpacking.{over};
+ghost use Rattle.verdict.specs.Lent.{over};
 ghost use Rattle.matrix.specs.Listed.{fieldNumbers};
 ghost use Rattle.gateway.specs.Listing.{numbersOf, ListedBy, FieldsBy, NumbersBy};
 use arrayreader::Sizes;

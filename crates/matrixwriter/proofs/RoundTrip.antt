@@ -24,7 +24,8 @@ use Rattle.matrix.specs.Machine.{verdictOf}
 use Rattle.matrix.proofs.Verdicts.{matrix-complete}
 use Rattle.matrix.proofs.Decoding.{meaning-back}
 use Rattle.matrix.proofs.Complete.{complete-meaning, complete-count}
-use Rattle.unpack.specs.Unpacking.{over, saidFor, leftFor, unpackShort, UnpackedFor, UnpackedBy}
+use Rattle.unpack.specs.Unpacking.{unpackShort, UnpackedFor, UnpackedBy}
+use Rattle.verdict.specs.Lent.{over, saidFor, leftFor}
 use Rattle.matrixcheck.specs.Given.{sentWords, deviationMarks, meaningGiven, givenRows}
 use Rattle.matrixwriter.specs.Writing.{writerRows}
 use Rattle.matrixcheck.specs.Checking.{Enough}

@@ -39,7 +39,8 @@ use Rattle.array.proofs.Offsets.{offset-below}
 use Rattle.arrayreader.specs.declared.Addressed.{Addressed}
 use Rattle.arrayreader.specs.declared.Addressed.the-variants.{Offset, Refused as AddressedRefused}
 use Rattle.arrayreader.specs.Reading.{addressFor}
-use Rattle.unpack.specs.Unpacking.{saidFor, UnpackedBy, ExpandedBy}
+use Rattle.unpack.specs.Unpacking.{UnpackedBy, ExpandedBy}
+use Rattle.verdict.specs.Lent.{saidFor}
 use Rattle.matrixcheck.specs.Given.{meaningGiven as matrixGiven}
 use Rattle.matrixwriter.specs.Writing.{writerRows as matrixRows}
 use Rattle.matrixwriter.proofs.RoundTrip.{writer-accepts as matrix-accepts}

@@ -10,7 +10,8 @@ use Rattle.matrix.specs.declared.Fields.{Fields}
 use Rattle.matrixwalk.specs.declared.Found.{Found}
 use Rattle.matrix.specs.Spelling.{meaningOf}
 use Rattle.unpack.specs.Arrangement.{expandedWords, expandedMarks}
-use Rattle.unpack.specs.Unpacking.{over, unpackShort, UnpackedFor, expandShort, ExpandedFor}
+use Rattle.unpack.specs.Unpacking.{unpackShort, UnpackedFor, expandShort, ExpandedFor}
+use Rattle.verdict.specs.Lent.{over}
 use Rattle.unpack.specs.Found.{Whole}
 
 module _ (bytes : List ℕ) (found : Found) (whole : Whole bytes found) (deviations coefficients marks : List ℕ) where

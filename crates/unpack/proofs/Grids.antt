@@ -12,7 +12,7 @@ use lib.Seq.{ext-getD, getD-drop, getD-append-add, getD-set-same, getD-set-other
 use Rattle.verdict.proofs.Cases.{either, or-left}
 use Rattle.matrix.specs.Meaning.{Matrix}
 use Rattle.unpack.specs.Arrangement.{square, wordAt, markAt, expandedWords, expandedMarks}
-use Rattle.unpack.specs.Unpacking.{over}
+use Rattle.verdict.specs.Lent.{over}
 use Rattle.unpack.specs.Cells.{Cells, Grid, Room}
 use Rattle.unpack.proofs.Squares.{cell-below, cell-one, length-listed, listed-at}
 use Rattle.unpack.proofs.Tests.{tells-both, tells-equal}

@@ -15,7 +15,7 @@ use Rattle.matrix.specs.Spelling.{meaningOf}
 use Rattle.verdict.proofs.Cases.{either}
 use Rattle.matrix.proofs.Order.{place-below}
 use Rattle.unpack.specs.Arrangement.{expandedWords, expandedMarks}
-use Rattle.unpack.specs.Unpacking.{over}
+use Rattle.verdict.specs.Lent.{over}
 use Rattle.unpack.specs.Cells.{Grid, At, Room, diagonal, ofRow, ofRows}
 use Rattle.unpack.specs.Found.{Whole, coefficientAt}
 use Rattle.unpack.proofs.Filling.{coefficient-place}

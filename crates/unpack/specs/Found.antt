@@ -1,8 +1,8 @@
 -- What is known of a whole pack that a walk has found, and where its words stand.
 use Prim.Native.Nat.{ℕ, _+_, _*_, _≤_}
 use mathlib.Core.Path.{_≡_}
-use mathlib.Core.List.{List, _++_}
-use lib.ListN.{length, take, drop}
+use mathlib.Core.List.{List}
+use lib.ListN.{length, take}
 use Rattle.matrixwalk.specs.declared.Found.{Found}
 use Rattle.matrix.specs.Meaning.{Matrix, sum, Lawful}
 use Rattle.matrix.specs.Spelling.{vectorBytes, meaningOf}
@@ -17,7 +17,3 @@ pub record Whole (bytes : List ℕ) (found : Found) : Type 0 where
 -- the place of the next coefficient behind so many pairs: those that are sent stand before it
 abbrev pub coefficientAt : Matrix → Found → ℕ → ℕ
 coefficientAt m found pair = found .words + (m .fields .n * m .fields .slen + sum (take pair (m .marks)) * m .fields .clen)
-
--- the first so many values over the first entries of a list
-abbrev pub overFirst : ℕ → List ℕ → List ℕ → List ℕ
-overFirst count values out = take count values ++ drop count out

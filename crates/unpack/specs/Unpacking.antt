@@ -1,33 +1,16 @@
 -- What unpacking and expanding answer, and what they leave in the lent lists: those change only where the answer is complete.
 use Prim.Native.Nat.{ℕ, _*_}
 use mathlib.Core.Path.{_≡_}
-use mathlib.Core.Bool.{Bool, _||_, cond}
-use mathlib.Core.List.{List, _++_}
-use lib.ListN.{length, drop}
+use mathlib.Core.Bool.{Bool, _||_}
+use mathlib.Core.List.{List}
+use lib.ListN.{length}
 use lib.Dec.{ltb}
-use Rattle.verdict.specs.declared.Reason.the-variants.{SmallBuffer}
 use Rattle.verdict.specs.declared.Verdict.{Verdict}
-use Rattle.verdict.specs.declared.Verdict.the-variants.{Complete, Unfinished, Refused}
+use Rattle.verdict.specs.Lent.{saidFor, leftFor}
 use Rattle.matrix.specs.Meaning.{Matrix, pairs}
 use Rattle.matrix.specs.Spelling.{meaningOf}
 use Rattle.matrix.specs.Machine.{verdictOf}
 use Rattle.unpack.specs.Arrangement.{expandedWords, expandedMarks}
-
--- values over the first entries of a list; those past them stay
-abbrev pub over : List ℕ → List ℕ → List ℕ
-over values out = values ++ drop (length values) out
-
--- a verdict other than complete first, then 13
-abbrev pub saidFor : Verdict → Bool → Verdict
-saidFor (Complete n) short = cond short (Refused (record { reason = SmallBuffer; place = 0 })) (Complete n)
-saidFor (Unfinished missing) short = Unfinished missing
-saidFor (Refused refusal) short = Refused refusal
-
--- what is left in a lent list: these values where the answer is complete
-abbrev pub leftFor : Verdict → List ℕ → List ℕ → List ℕ
-leftFor (Complete n) values out = over values out
-leftFor (Unfinished missing) values out = out
-leftFor (Refused refusal) values out = out
 
 -- N deviations, M coefficients and M marks have no room
 abbrev pub unpackShort : ℕ → List ℕ → List ℕ → List ℕ → Bool

@@ -8,5 +8,6 @@ pub mod Beginnings
 pub mod Judging
 pub mod Putting
 pub mod Deciding
+pub mod Lent
 pub mod OneAnswer
 pub mod Only

@@ -15,7 +15,7 @@ use Rattle.verdict.specs.Rows.{Row}
 unfoldable pub put : List ℕ → ℕ → List ℕ → List ℕ
 put out place bytes = take place out ++ (bytes ++ drop (place + length bytes) out)
 
--- a writer's refusal: its place is 0
+-- a refusal that has no place in a pack, as all those of a writer: its place is 0
 abbrev pub refusing : Reason → Verdict
 refusing reason = Refused (record { reason = reason; place = 0 })
 

@@ -2,6 +2,7 @@
 ghost use mathlib.Core.Path.{_≡_};
 ghost use Prim.Native.Nat.{min};
 ghost use Rattle.verdict.specs.Numbers.{numberOf, packedOf};
+ghost use Rattle.verdict.specs.Writing.{refusing};
 
 // Why bytes or arguments are refused, each under its name in document 01.
 pub enum Reason {
@@ -77,10 +78,17 @@ pub fn number(reason: Reason) -> u64
 }
 
 // The lesser of two numbers.
-fn lesser(a: usize, b: usize) -> u64
+pub fn lesser(a: usize, b: usize) -> usize
     ensures { λ r. ⌜ r ≡ min a b ⌝ }
 {
-    if a < b { a as u64 } else { b as u64 }
+    if a < b { a } else { b }
+}
+
+// A refusal that has no place in a pack.
+pub fn refuse(reason: Reason) -> Verdict
+    ensures { λ r. ⌜ r ≡ refusing reason ⌝ }
+{
+    Verdict::Refused(Refusal { reason, place: 0 })
 }
 
 // The verdict as the one number that C gets.
@@ -88,12 +96,12 @@ pub fn packed(verdict: Verdict) -> u64
     ensures { λ r. ⌜ r ≡ packedOf verdict ⌝ }
 {
     match verdict {
-        Verdict::Complete(length) => lesser(length, 0xFFFF_FFFF),
-        Verdict::Unfinished(missing) => 0x1_0000_0000 + lesser(missing, 0xFFFF_FFFF),
+        Verdict::Complete(length) => lesser(length, 0xFFFF_FFFF) as u64,
+        Verdict::Unfinished(missing) => 0x1_0000_0000 + lesser(missing, 0xFFFF_FFFF) as u64,
         Verdict::Refused(refusal) => {
             let reason = refusal.reason;
             let place = refusal.place;
-            0x2_0000_0000 + number(reason) * 0x1_0000 + lesser(place, 0xFFFF)
+            0x2_0000_0000 + number(reason) * 0x1_0000 + lesser(place, 0xFFFF) as u64
         }
     }
 }

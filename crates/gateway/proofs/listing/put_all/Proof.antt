@@ -3,8 +3,8 @@ use Prim.Native.Nat.{_-_, _≤_}
 use mathlib.Core.Path.{_≡_, refl}
 use native.Mathlib.Omega.{arith}
 use lib.ListN.{length}
-use Rattle.unpack.specs.Found.{overFirst}
-use Rattle.unpack.proofs.Overlay.{filled-more, filled-length, filled-all}
+use Rattle.verdict.specs.Lent.{overFirst}
+use Rattle.verdict.proofs.Lent.{filled-more, filled-length, filled-all}
 use borrow.Author.Needs.{needs}
 use Rattle.gateway.proofs.listing.put_all.Statement.{statement}
 use Rattle.gateway.proofs.listing.put_all.Tie as tie

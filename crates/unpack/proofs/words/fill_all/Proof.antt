@@ -4,7 +4,7 @@ use native.Mathlib.Omega.{arith}
 use denote.Ref.{now}
 use lib.ListN.{length as count}
 use Rattle.matrix.specs.Meaning.{pairs}
-use Rattle.unpack.proofs.Overlay.{over-same}
+use Rattle.verdict.proofs.Lent.{over-same}
 use Rattle.unpack.proofs.Filling.{Small, small, marks-stand, coefficients-stand, coefficients-within}
 use borrow.Author.Needs.{needs}
 use Rattle.unpack.proofs.words.fill_all.Statement.{statement}

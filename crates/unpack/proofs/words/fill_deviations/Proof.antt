@@ -1,6 +1,6 @@
 -- `unpack::words::fill_deviations` meets its contract: a deviation is a word that is sent. Assumes nothing.
 use denote.Ref.{now}
-use Rattle.unpack.proofs.Overlay.{over-same}
+use Rattle.verdict.proofs.Lent.{over-same}
 use Rattle.unpack.proofs.Filling.{small, deviations-stand, deviations-within}
 use borrow.Author.Needs.{needs}
 use Rattle.unpack.proofs.words.fill_deviations.Statement.{statement}

@@ -4,8 +4,8 @@ use mathlib.Core.Path.{_≡_, refl, sym}
 use native.Mathlib.Omega.{arith}
 use denote.Ref.{now}
 use lib.ListN.{length as count, replicate, length-replicate, getD-replicate}
-use Rattle.unpack.specs.Found.{overFirst}
-use Rattle.unpack.proofs.Overlay.{filled-more, filled-length, filled-all}
+use Rattle.verdict.specs.Lent.{overFirst}
+use Rattle.verdict.proofs.Lent.{filled-more, filled-length, filled-all}
 use borrow.Author.Needs.{needs}
 use Rattle.unpack.proofs.words.fill_marks.Statement.{statement}
 use Rattle.unpack.proofs.words.fill_marks.Tie as tie

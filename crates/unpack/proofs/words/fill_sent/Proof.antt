@@ -7,8 +7,9 @@ use denote.Ref.{now}
 use lib.ListN.{length as size, take}
 use Rattle.matrix.specs.Meaning.{sum, pairs}
 use Rattle.matrix.specs.Spelling.{meaningOf}
-use Rattle.unpack.specs.Found.{coefficientAt, overFirst}
-use Rattle.unpack.proofs.Overlay.{filled-more, filled-length, filled-all}
+use Rattle.unpack.specs.Found.{coefficientAt}
+use Rattle.verdict.specs.Lent.{overFirst}
+use Rattle.verdict.proofs.Lent.{filled-more, filled-length, filled-all}
 use Rattle.unpack.proofs.Filling.{Small, small, vector-within, words-within, coefficient-count, mark-count, coefficient-place, coefficient-next, coefficient-within, coefficient-is}
 use borrow.Author.Needs.{needs}
 use Rattle.unpack.proofs.words.fill_sent.Statement.{statement}
