@@ -15,7 +15,8 @@ use Rattle.word.specs.Digits.{digits}
 use Rattle.word.proofs.Digits.{Below, below-append, below-one, below-take}
 use Rattle.matrix.specs.declared.Fields.{Fields}
 use Rattle.matrix.specs.Meaning.{pairs, sum, Matrix, LawfulFirst, LawfulFields, Lawful}
-use Rattle.matrix.specs.Spelling.{bits, packed, spelled, bytesOf, control1, control2, first, second, vectorBytes}
+use Rattle.matrix.specs.Spelling.{packed, spelled, bytesOf}
+use Rattle.matrix.specs.Header.{headerOf, bits, control1, control2, first, second, vectorBytes}
 use Rattle.matrix.specs.Pack.{MatrixPack}
 use Rattle.matrix.specs.Table.{sizeRows, control1Rows, control2Rows, vectorRows}
 use Rattle.matrix.specs.Machine.{size, vector, step, enter, wordsOf, allSent, enterValues}
@@ -176,7 +177,7 @@ module _ (m : Matrix) (g : Lawful m) where
 
   -- a lawful meaning's bytes are accepted
   meaning-accepted : Accepts step size (bytesOf m)
-  unfolding Accepts
+  unfolding Accepts headerOf
   meaning-accepted =
       let l = g .fields .first in
       let n = f .n in
@@ -202,7 +203,7 @@ module _ (f : Fields) (g : LawfulFields f) where
   record Means (w : List ℕ) : Type 0 where
     meaning : Matrix
     lawful : Lawful meaning
-    spelt : bytesOf meaning ≡ f .n ∷ control1 f ∷ control2 f ∷ w
+    spelt : bytesOf meaning ≡ headerOf f ++ w
 
   marked : (marks w : List ℕ) → length marks ≡ pairs (f .n) → ((i : ℕ) → getD marks i 0 ≤ 1) → (f .cs ≡ false → (i : ℕ) → i < pairs (f .n) → getD marks i 0 ≡ min 1 (f .clen)) → 0 < f .slen + sum marks
       → Reaches step (enter (wordsOf f (sum marks))) w → Means (packed (vectorBytes f) marks ++ w)
@@ -224,7 +225,7 @@ module _ (f : Fields) (g : LawfulFields f) where
             some-value = some;
           };
         };
-        spelt = ap (λ (l : List ℕ). f .n ∷ control1 f ∷ control2 f ∷ (packed (vectorBytes f) marks ++ l)) (v .spelled-as);
+        spelt = ap (λ (l : List ℕ). headerOf f ++ (packed (vectorBytes f) marks ++ l)) (v .spelled-as);
       }
 
   full-means : f .cs ≡ false → (w : List ℕ) → Reaches step (enter (wordsOf f (allSent f))) w → Means w
@@ -263,6 +264,7 @@ module _ (f : Fields) (g : LawfulFields f) where
 
 header-pack : (n c d : ℕ) (w : List ℕ) → c < 256 → d < 256 → Kept (sizeRows n) → Kept (control1Rows (first n c) c) → Kept (control2Rows (second (first n c) d) d)
     → Reaches step (enterValues (second (first n c) d) (vectorBytes (first n c))) w → MatrixPack (n ∷ c ∷ d ∷ w)
+unfolding headerOf
 header-pack n c d w hc hd kn kc kd a =
     let s = size-kept n kn in
     let m = values-means (second (first n c) d) (second-kept (first n c) d (first-kept n c (s .0) (s .1) kc) kd) w a in

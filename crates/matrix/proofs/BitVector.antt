@@ -15,7 +15,8 @@ use Rattle.verdict.proofs.Cases.{either}
 use Rattle.word.specs.Digits.{digits, valueOn, valueOf}
 use Rattle.word.proofs.Digits.{Below, below-append, below-take, below-drop, length-digits, digits-below, digits-value, value-digits, value-below, value-snoc, value-zeros}
 use Rattle.matrix.specs.Meaning.{pairs, sum, Matrix, LawfulValues}
-use Rattle.matrix.specs.Spelling.{packed, bits}
+use Rattle.matrix.specs.Spelling.{packed}
+use Rattle.matrix.specs.Header.{bits}
 
 -- zeros behind a list are as good as none
 pub getD-zeros : (xs : List ℕ) (n i : ℕ) → getD (xs ++ replicate n 0) i 0 ≡ getD xs i 0

@@ -10,13 +10,17 @@ use Rattle.matrix.specs.Meaning.{Lawful}
 use Rattle.matrix.specs.Spelling.{bytesOf, meaningOf}
 use Rattle.matrix.specs.Pack.{MatrixPack}
 use Rattle.matrix.specs.Table.{Why}
-use Rattle.matrix.specs.Machine.{verdictOf}
-use Rattle.matrix.proofs.Verdicts.{matrix-said}
+use Rattle.matrix.specs.Machine.{size, step, least, verdictOf}
+use Rattle.matrix.specs.Reached.{Good}
+use Rattle.verdict.proofs.Running.{verdict-said}
+use Rattle.matrix.proofs.Keeping.{matrix-laws}
+use Rattle.matrix.proofs.Accepting.{accepted-pack, pack-accepted}
+use Rattle.matrix.proofs.Reasons.{blames-why}
 use Rattle.matrix.proofs.Decoding.{pack-meaning}
 
 module _ (bytes : List ℕ) (b : Bytes bytes) (n : ℕ) (e : verdictOf bytes ≡ Complete n) where
   said : CompleteAt MatrixPack bytes n
-  said = subst (Says MatrixPack Why bytes) e (matrix-said bytes b)
+  said = subst (Says MatrixPack Why bytes) e (verdict-said step least Good matrix-laws MatrixPack Why size tt (λ w. (accepted-pack w, pack-accepted w)) blames-why bytes b)
 
   pub complete-meaning : Lawful (meaningOf bytes) × (bytesOf (meaningOf bytes) ≡ take n bytes)
   complete-meaning =

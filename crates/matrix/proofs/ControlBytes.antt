@@ -10,7 +10,7 @@ use Rattle.verdict.proofs.Judging.{Kept}
 use Rattle.rule.proofs.Certain.{deviation-sound, coefficient-sound, deviation-length, coefficient-length}
 use Rattle.matrix.specs.declared.Fields.{Fields}
 use Rattle.matrix.specs.Meaning.{LawfulFirst, LawfulFields}
-use Rattle.matrix.specs.Spelling.{bit, first, second, control1, control2}
+use Rattle.matrix.specs.Header.{bit, first, second, control1, control2}
 use Rattle.matrix.specs.Table.{sizeRows, control1Rows, control2Rows}
 use Rattle.matrix.proofs.FieldRules.{lawful-coefficients, lawful-deviations}
 

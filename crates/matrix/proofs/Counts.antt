@@ -7,7 +7,7 @@ use lib.Dec.{eqb}
 use Rattle.verdict.proofs.Cases.{by-test}
 use Rattle.matrix.specs.declared.Fields.{Fields}
 use Rattle.matrix.specs.Meaning.{pairs, LawfulFirst, LawfulFields}
-use Rattle.matrix.specs.Spelling.{bit}
+use Rattle.matrix.specs.Header.{bit}
 use Rattle.matrix.specs.Machine.{leastFor, leastValues, fewest}
 use Rattle.matrix.proofs.ControlBytes.{clen-small, slen-small}
 use Rattle.matrix.proofs.Pairs.{pairs-most}

@@ -15,10 +15,11 @@ use Rattle.word.proofs.Digits.{length-digits, value-digits}
 use Rattle.rule.proofs.Certain.{keeps-fits, deviation-sound, coefficient-sound, deviation-length, coefficient-length}
 use Rattle.matrix.specs.declared.Fields.{Fields}
 use Rattle.matrix.specs.Meaning.{sum, nought, Matrix, Lawful}
-use Rattle.matrix.specs.Spelling.{meaningBehind, bits, packed, spelled, bytesOf, vectorBytes, marksOf, read, meaningOf}
+use Rattle.matrix.specs.Spelling.{meaningBehind, meaningIn, packed, spelled, bytesOf, read, meaningOf}
+use Rattle.matrix.specs.Header.{headerOf, headerBytes, bits, vectorBytes, marksOf}
 use Rattle.matrix.specs.Pack.{MatrixPack}
 use Rattle.matrix.proofs.BitVector.{length-packed, marks-back, marks-alike, sum-same}
-use Rattle.matrix.proofs.ControlBytes.{second-back}
+use Rattle.matrix.proofs.Header.{header-length, header-behind, header-back}
 
 -- ---- words
 
@@ -108,8 +109,10 @@ module _ (m : Matrix) (g : Lawful m) where
 -- a lawful meaning is read back from its bytes, whatever is behind them
 pub meaning-back : (m : Matrix) → Lawful m → (t : List ℕ) → meaningOf (bytesOf m ++ t) ≡ m
 meaning-back m g t =
-    let w = bytesOf m ++ t in
-    ap (λ (f : Fields). meaningBehind f (drop 3 w)) (second-back (m .fields) (g .fields)) ∙ rw (append-assoc, append-assoc) (values-back m g t)
+    let f = m .fields in
+    let behind = packed (vectorBytes f) (m .marks) ++ (deviationBytes m g ++ coefficientBytes m g) in
+    ap meaningOf (append-assoc (headerOf f) behind t) ∙ ap (λ (h : Fields). meaningIn h (headerOf f ++ (behind ++ t))) (header-back f (g .fields) (behind ++ t))
+    ∙ ap (meaningBehind f) (header-behind f (behind ++ t)) ∙ rw (append-assoc, append-assoc) (values-back m g t)
 
 -- lawful meanings with the same bytes are the same
 pub meaning-one : (m k : Matrix) → Lawful m → Lawful k → bytesOf m ≡ bytesOf k → m ≡ k
@@ -122,7 +125,7 @@ pack-meaning w t p =
     (subst Lawful (sym e) (p .lawful), ap bytesOf e ∙ p .spelled)
 
 -- how many bytes a meaning takes
-pub pack-length : (m : Matrix) → length (bytesOf m) ≡ 3 + (vectorBytes (m .fields) + (m .fields .n * m .fields .slen + sum (m .marks) * m .fields .clen))
+pub pack-length : (m : Matrix) → length (bytesOf m) ≡ headerBytes (m .fields) + (vectorBytes (m .fields) + (m .fields .n * m .fields .slen + sum (m .marks) * m .fields .clen))
 pack-length m =
     let f = m .fields in
-    simp length-append (omega (arith, length-packed (vectorBytes f) (m .marks), length-ones (f .slen) (f .n) (m .deviations), length-spelled (f .clen) (m .marks) (m .coefficients)))
+    simp length-append (omega (arith, header-length f, length-packed (vectorBytes f) (m .marks), length-ones (f .slen) (f .n) (m .deviations), length-spelled (f .clen) (m .marks) (m .coefficients)))

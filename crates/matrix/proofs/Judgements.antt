@@ -14,7 +14,8 @@ use Rattle.verdict.specs.declared.Verdict.the-variants.{Refused}
 use Rattle.verdict.specs.Machine.{Move, on, bad, led}
 use Rattle.verdict.specs.declared.Judged.the-variants.{Kept as JudgedKept, Broken}
 use Rattle.verdict.specs.Judgement.{judgement}
-use Rattle.matrix.specs.Machine.{State, word, Run, enter, step, least, verdictAt, verdictBehind}
+use Rattle.matrix.specs.Machine.{State, word, Run, enter, step, least}
+use Rattle.matrix.specs.Reached.{verdictAt, verdictBehind}
 use Rattle.matrix.proofs.Reasons.{enter-word}
 
 judged-broken : (rows : List Row) (next : Move State) (reason : Reason) → judgement rows ≡ Broken reason → judged rows next ≡ bad reason

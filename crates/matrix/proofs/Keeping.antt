@@ -19,9 +19,10 @@ use Rattle.word.specs.Digits.{digits}
 use Rattle.rule.specs.declared.rules.Rule.{Rule}
 use Rattle.rule.specs.Rules.{cleared, Sound}
 use Rattle.matrix.specs.Meaning.{pairs, sum, LawfulFirst, LawfulFields}
-use Rattle.matrix.specs.Spelling.{bit, vectorBytes, first, second}
+use Rattle.matrix.specs.Header.{bit, vectorBytes, first, second}
 use Rattle.matrix.specs.Table.{sizeRows, control1Rows, control2Rows, vectorRows, wordRows}
-use Rattle.matrix.specs.Machine.{State, size, control1, control2, vector, word, Run, enter, enterRun, enterWord, runBytes, inWord, restOf, wordsOf, allSent, enterValues, step, least, leastFor, leastValues, fewest, GoodRuns, GoodRun, GoodWord, GoodVector, Good}
+use Rattle.matrix.specs.Machine.{State, size, control1, control2, vector, word, Run, enter, enterRun, enterWord, runBytes, inWord, restOf, wordsOf, allSent, enterValues, step, least, leastFor, leastValues, fewest}
+use Rattle.matrix.specs.Reached.{GoodRuns, GoodRun, GoodWord, GoodVector, Good}
 use Rattle.matrix.proofs.BitVector.{sum-append}
 use Rattle.matrix.proofs.ControlBytes.{size-kept}
 use Rattle.matrix.proofs.FieldRules.{coefficients-lawful, deviations-lawful}

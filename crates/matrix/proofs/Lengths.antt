@@ -6,10 +6,12 @@ use mathlib.Core.List.{List, [], _∷_}
 use native.Mathlib.Omega.{arith}
 use lib.ListN.{length, getD}
 use Rattle.matrix.specs.Meaning.{pairs, sum}
-use Rattle.matrix.specs.Spelling.{bit, bytesOf}
+use Rattle.matrix.specs.Spelling.{bytesOf}
+use Rattle.matrix.specs.Header.{bit}
 use Rattle.matrix.specs.Pack.{MatrixPack}
 use Rattle.matrix.proofs.Pairs.{pairs-most}
 use Rattle.matrix.proofs.Counts.{deviations-most, coefficients-most}
+use Rattle.matrix.proofs.Header.{header-most}
 use Rattle.matrix.proofs.Decoding.{pack-length}
 
 -- no more marks are 1 than there are marks
@@ -31,5 +33,5 @@ matrix-short w p =
     let most = pairs-most (f .n) (g .fields .first .size-most) in
     let sent : sum (m .marks) ≤ 2016 = omega (arith, marks-most (m .marks) (g .values .mark-rule), g .values .mark-count, most) in
     let long : length (bytesOf m) ≤ 16895 =
-    omega (arith, pack-length m, vector-most (f .cs) (pairs (f .n)) most, deviations-most f (g .fields), coefficients-most f (sum (m .marks)) (g .fields .first) sent) in
+    omega (arith, pack-length m, header-most f, vector-most (f .cs) (pairs (f .n)) most, deviations-most f (g .fields), coefficients-most f (sum (m .marks)) (g .fields .first) sent) in
     subst (λ (l : List ℕ). length l ≤ 16895) (p .spelled) long

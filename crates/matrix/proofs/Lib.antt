@@ -3,12 +3,12 @@ pub mod Order
 pub mod BitVector
 pub mod FieldRules
 pub mod ControlBytes
+pub mod Header
 pub mod Begun
 pub mod WordRuns
 pub mod Keeping
 pub mod Accepting
 pub mod Reasons
-pub mod Verdicts
 pub mod Decoding
 pub mod Complete
 pub mod Counts
@@ -16,3 +16,8 @@ pub mod Judgements
 pub mod Ones
 pub mod VectorRuns
 pub mod Lengths
+pub mod Sums
+pub mod Bits
+pub mod Values
+pub mod Squares
+pub mod Expanded

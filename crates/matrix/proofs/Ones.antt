@@ -11,7 +11,7 @@ use lib.Seq.{take-add, take-suc, getD-drop}
 use Rattle.word.specs.Digits.{digits, valueOn, valueOf}
 use Rattle.word.proofs.Digits.{Below, bytes-bits, value-below, valueOn-split}
 use Rattle.matrix.specs.Meaning.{sum}
-use Rattle.matrix.specs.Spelling.{bits}
+use Rattle.matrix.specs.Header.{bits}
 use Rattle.matrix.proofs.BitVector.{sum-append, bits-append}
 use Rattle.matrix.proofs.Keeping.{sum-bits}
 

@@ -19,7 +19,7 @@ use Rattle.rule.specs.Rules.{cleared}
 use Rattle.word.specs.Digits.{digits}
 use Rattle.matrix.specs.declared.Fields.{Fields}
 use Rattle.matrix.specs.Meaning.{pairs, sum, LawfulFirst, LawfulFields}
-use Rattle.matrix.specs.Spelling.{bits, first, second, vectorBytes}
+use Rattle.matrix.specs.Header.{bits, first, second, vectorBytes}
 use Rattle.matrix.specs.Table.{sizeRows, control1Rows, control2Rows, vectorRows, wordRows, valueRows, rowsOf, Why}
 use Rattle.matrix.proofs.Accepting.{sum-more, sum-last, vector-zeros}
 use Rattle.matrix.proofs.BitVector.{sum-first}

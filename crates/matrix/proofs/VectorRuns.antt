@@ -11,8 +11,9 @@ use Rattle.verdict.proofs.Reaching.{reach-cut, reach-step}
 use Rattle.word.specs.Digits.{digits}
 use Rattle.matrix.specs.declared.Fields.{Fields}
 use Rattle.matrix.specs.Meaning.{sum}
-use Rattle.matrix.specs.Spelling.{bits}
-use Rattle.matrix.specs.Machine.{vector, inVector, step, least, verdictAt, verdictBehind}
+use Rattle.matrix.specs.Header.{bits}
+use Rattle.matrix.specs.Machine.{vector, inVector, step, least}
+use Rattle.matrix.specs.Reached.{verdictAt, verdictBehind}
 use Rattle.matrix.proofs.BitVector.{sum-append}
 use Rattle.matrix.proofs.Judgements.{behind-on}
 

@@ -1,7 +1,10 @@
 pub mod Meaning
 pub mod Order
+pub mod Header
 pub mod Spelling
 pub mod Pack
 pub mod Table
 pub mod Machine
+pub mod Reached
 pub mod Listed
+pub mod Expanded

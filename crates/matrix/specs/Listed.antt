@@ -2,7 +2,7 @@
 use Prim.Native.Nat.{ℕ}
 use mathlib.Core.List.{List, [], _∷_}
 use Rattle.matrix.specs.declared.Fields.{Fields}
-use Rattle.matrix.specs.Spelling.{bit}
+use Rattle.matrix.specs.Header.{bit}
 
 -- N, Cs, Cf, Clen, Sf, Slen; yes is 1, no is 0
 abbrev pub fieldNumbers : Fields → List ℕ

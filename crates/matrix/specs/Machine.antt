@@ -1,19 +1,17 @@
 -- The machine of matrix packs: what each byte does, and the fewest bytes that are missing in each state.
-use Prim.Native.Nat.{ℕ, zero, suc, _+_, _-_, _*_, _/_, _%_, _^_, _≤_, _<_, min, max}
-use mathlib.Core.Path.{_≡_}
-use mathlib.Core.Bool.{true, cond}
-use mathlib.Core.Logic.{_⊎_}
+use Prim.Native.Nat.{ℕ, zero, suc, _+_, _-_, _*_, _/_, _%_, _^_, min, max}
+use mathlib.Core.Bool.{cond}
 use mathlib.Core.List.{List, [], _∷_}
 use lib.Dec.{eqb, ltb}
 use Rattle.verdict.specs.Rows.{judged}
 use Rattle.verdict.specs.declared.Verdict.{Verdict}
-use Rattle.verdict.specs.Machine.{Move, on, done, run, reach, led}
+use Rattle.verdict.specs.Machine.{Move, on, done, run}
 use Rattle.word.specs.Digits.{digits}
 use Rattle.rule.specs.declared.rules.Rule.{Rule}
-use Rattle.rule.specs.Rules.{cleared, deviationRule, coefficientRule, Sound}
+use Rattle.rule.specs.Rules.{cleared, deviationRule, coefficientRule}
 use Rattle.matrix.specs.declared.Fields.{Fields}
-use Rattle.matrix.specs.Meaning.{pairs, sum, LawfulFirst, LawfulFields}
-use Rattle.matrix.specs.Spelling.{vectorBytes, first, second}
+use Rattle.matrix.specs.Meaning.{pairs, sum}
+use Rattle.matrix.specs.Header.{vectorBytes, first, second}
 use Rattle.matrix.specs.Table.{sizeRows, control1Rows, control2Rows, vectorRows, wordRows}
 
 -- some words of one rule
@@ -107,43 +105,6 @@ least (control2 f) = 1 + leastValues f
 least (vector f more sent) = suc more + (f .n * f .slen + fewest f sent * f .clen)
 least (word more sign top run runs) = suc more + (run .count * run .rule .length + runBytes runs)
 
--- a run of words that code can count
-pub record GoodRun (run : Run) : Type 0 where
-  pub sound : Sound (run .rule)
-  pub counted : run .count ≤ 2016
-
-abbrev pub GoodRuns : List Run → Type 0
-GoodRuns [] = Unit {0}
-GoodRuns (run ∷ runs) = GoodRun run × GoodRuns runs
-
-pub record GoodVector (f : Fields) (more sent : ℕ) : Type 0 where
-  pub fields : LawfulFields f
-  pub sparse : f .cs ≡ true
-  pub within : suc more ≤ vectorBytes f
-  pub counted : sent ≤ (vectorBytes f - suc more) * 8
-
-pub record GoodWord (more sign top : ℕ) (run : Run) (runs : List Run) : Type 0 where
-  pub short : suc more ≤ 8
-  pub signed : (sign ≡ 0) ⊎ ((sign ≡ 128) × (top < 128 * 256 ^ more))
-  pub room : top < 256 ^ suc more
-  pub first : GoodRun run
-  pub others : GoodRuns runs
-
--- the states that a machine can be in
-abbrev pub Good : State → Type 0
-Good size = Unit {0}
-Good (control1 n) = (1 ≤ n) × (n ≤ 64)
-Good (control2 f) = LawfulFirst f
-Good (vector f more sent) = GoodVector f more sent
-Good (word more sign top run runs) = GoodWord more sign top run runs
-
 -- the verdict on a string of bytes
 abbrev pub verdictOf : List ℕ → Verdict
 verdictOf bytes = run step least size bytes
-
--- the verdict on all the bytes from a state that the machine has reached at a place, and behind a move
-abbrev pub verdictAt : State → List ℕ → ℕ → Verdict
-verdictAt s bytes place = reach step least s bytes place
-
-abbrev pub verdictBehind : Move State → List ℕ → ℕ → Verdict
-verdictBehind move bytes place = led step least move bytes place

@@ -10,7 +10,7 @@ use Rattle.verdict.specs.Rows.{Row, Blamed}
 use Rattle.rule.specs.Rules.{allowed}
 use Rattle.matrix.specs.declared.Fields.{Fields}
 use Rattle.matrix.specs.Meaning.{pairs, sum}
-use Rattle.matrix.specs.Spelling.{first, second, vectorBytes, bits}
+use Rattle.matrix.specs.Header.{first, second, vectorBytes, bits}
 
 -- the size
 abbrev pub sizeRows : ℕ → List Row

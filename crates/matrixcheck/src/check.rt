@@ -2,12 +2,14 @@
 ghost use mathlib.Core.Path.{_≡_};
 ghost use mathlib.Core.Bool.{true, cond};
 ghost use mathlib.Core.List.{_++_};
-ghost use Prim.Native.Nat.{_≤_, min};
+ghost use Prim.Native.Nat.{_≤_};
 ghost use lib.ListN.{length, take, replicate};
 ghost use Rattle.rule.specs.Rules.{deviationRule, coefficientRule, ruleOf};
 ghost use Rattle.matrix.specs.Meaning.{pairs, sum, LawfulFields};
 ghost use Rattle.matrixcheck.specs.Given.{deviationMarks, marksFit, sentFit, disagreeRows, valueRows, givenRows};
 ghost use Rattle.matrixcheck.specs.Checking.{refusedFor, markedOf, checkedOf, Enough};
+use counts::mark_of;
+use counts::pairs_of;
 use matrix::Fields;
 use matrixhead::judge::Allowed;
 use matrixhead::judge::judge_fields;
@@ -33,21 +35,6 @@ fn refuse(reason: Reason) -> Checked
     ensures { λ r. ⌜ r ≡ refusedFor reason ⌝ }
 {
     Checked::Refused(Refusal { reason, place: 0 })
-}
-
-// M, how many pairs of variables there are.
-fn pairs_of(n: usize) -> usize
-    requires { ⌜ (1 ≤ n) × (n ≤ 64) ⌝ }
-    ensures { λ r. ⌜ r ≡ pairs n ⌝ }
-{
-    n * (n - 1) / 2
-}
-
-// The mark of values that are all sent: 0 if they have no bytes.
-fn mark_of(length: usize) -> u8
-    ensures { λ r. ⌜ r ≡ min 1 length ⌝ }
-{
-    if length == 0 { 0 } else { 1 }
 }
 
 // The least mark that fits, by the greatest one.

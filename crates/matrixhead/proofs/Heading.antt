@@ -1,6 +1,6 @@
 -- The header's bytes against the run: from each state, where a rule is broken and where none is. Assumes nothing.
 use Prim.Native.Nat.{ℕ, _≤_, _<_}
-use mathlib.Core.Path.{_≡_, sym, _∙_}
+use mathlib.Core.Path.{_≡_, sym, ap, _∙_}
 use mathlib.Core.List.{List}
 use native.Mathlib.Omega.{arith}
 use lib.ListN.{length, getD}
@@ -12,11 +12,13 @@ use Rattle.verdict.proofs.Reaching.{reach-start, reach-step}
 use Rattle.matrix.specs.declared.Fields.{Fields}
 use Rattle.verdict.specs.declared.Judged.the-variants.{Kept as JudgedKept, Broken}
 use Rattle.matrix.specs.Meaning.{LawfulFirst}
-use Rattle.matrix.specs.Spelling.{first, second, vectorBytes}
+use Rattle.matrix.specs.Header.{headerBytes, vectorBytes, first, second}
 use Rattle.matrix.specs.Table.{sizeRows, control1Rows, control2Rows}
 use Rattle.verdict.specs.Judgement.{judgement}
-use Rattle.matrix.specs.Machine.{size, control1, control2, enterValues, step, least, verdictOf, verdictAt, verdictBehind}
-use Rattle.matrixhead.specs.Beginning.{Headed}
+use Rattle.matrix.specs.Machine.{size, control1, control2, enterValues, step, least, verdictOf}
+use Rattle.matrix.specs.Reached.{verdictAt, verdictBehind}
+use Rattle.matrixhead.specs.Parts.{Headed}
+use Rattle.matrix.proofs.Header.{header-two}
 use Rattle.matrix.proofs.Keeping.{first-kept, second-kept}
 use Rattle.verdict.proofs.Deciding.{judgement-kept}
 use Rattle.matrix.proofs.Judgements.{behind-on, behind-kept, behind-broken}
@@ -51,11 +53,14 @@ module _ (bytes : List ℕ) (f g : Fields) (d : ℕ) (here : 2 < length bytes) (
   pub control2-broken : (reason : Reason) → judgement (control2Rows g d) ≡ Broken reason → verdictAt (control2 f) bytes 2 ≡ Refused (record { reason = reason; place = 2 })
   control2-broken reason e = control2-step ∙ behind-broken (control2Rows g d) (enterValues g (vectorBytes g)) bytes 3 reason e
 
+  headed : headerBytes g ≡ 3
+  headed = header-two g
+
   pub control2-headed : f ≡ first (getD bytes 0 0) (getD bytes 1 0) → LawfulFirst f → judgement (control2Rows g d) ≡ JudgedKept → Headed (verdictAt (control2 f) bytes 2) bytes g
   control2-headed same lawful e =
       record {
         same = rw (fields, same, read);
         lawful = rw fields (second-kept f d lawful (rw fields at (judgement-kept (control2Rows g d) e)));
-        within = omega arith;
-        leads = control2-step ∙ behind-kept (control2Rows g d) (enterValues g (vectorBytes g)) bytes 3 e;
+        within = omega (arith, headed);
+        leads = control2-step ∙ behind-kept (control2Rows g d) (enterValues g (vectorBytes g)) bytes 3 e ∙ ap (verdictBehind (enterValues g (vectorBytes g)) bytes) (sym headed);
       }

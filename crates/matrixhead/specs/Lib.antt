@@ -1,3 +1,4 @@
 pub mod Beginning
+pub mod Parts
 pub mod Judging
 pub mod Stated

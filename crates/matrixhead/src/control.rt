@@ -1,10 +1,13 @@
 // The control fields from their bytes, and the counts that follow from the fields.
 ghost use mathlib.Core.Path.{_≡_};
-ghost use Prim.Native.Nat.{_≤_, min};
-ghost use Rattle.matrix.specs.Meaning.{pairs, LawfulFirst};
-ghost use Rattle.matrix.specs.Spelling.{first, second, vectorBytes};
+ghost use Prim.Native.Nat.{_≤_};
+ghost use Rattle.matrix.specs.Meaning.{LawfulFirst};
+ghost use Rattle.matrix.specs.Header.{first, second};
 ghost use Rattle.matrix.specs.Machine.{leastFor, leastValues};
+use counts::pairs_of;
+use counts::vector_bytes;
 use matrix::Fields;
+use verdict::lesser;
 
 // The size with what control byte 1 says.
 pub(crate) fn first_of(n: usize, c: usize) -> Fields
@@ -32,28 +35,6 @@ pub(crate) fn second_of(f: Fields, d: usize) -> Fields
         sf: d / 16 % 2 == 1,
         slen: d % 16,
     }
-}
-
-// M, how many pairs of variables there are.
-pub(crate) fn pairs_of(n: usize) -> usize
-    requires { ⌜ (1 ≤ n) × (n ≤ 64) ⌝ }
-    ensures { λ r. ⌜ r ≡ pairs n ⌝ }
-{
-    n * (n - 1) / 2
-}
-
-// How many bytes the bit vector takes.
-pub(crate) fn vector_bytes(f: Fields) -> usize
-    requires { ⌜ (1 ≤ f .n) × (f .n ≤ 64) ⌝ }
-    ensures { λ r. ⌜ r ≡ vectorBytes f ⌝ }
-{
-    if f.cs { (pairs_of(f.n) + 7) / 8 } else { 0 }
-}
-
-pub(crate) fn lesser(a: usize, b: usize) -> usize
-    ensures { λ r. ⌜ r ≡ min a b ⌝ }
-{
-    if a < b { a } else { b }
 }
 
 // The fewest bytes of values behind a size.

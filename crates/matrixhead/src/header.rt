@@ -1,11 +1,12 @@
 // The first three bytes of a matrix pack: the size and the two control bytes.
 ghost use mathlib.Core.Path.{_≡_};
-ghost use Prim.Native.Nat.{_<_, _≤_};
+ghost use Prim.Native.Nat.{_≤_};
 ghost use lib.ListN.{length, getD};
-ghost use Rattle.matrix.specs.Spelling.{first};
+ghost use Rattle.matrix.specs.Header.{first};
 ghost use Rattle.matrix.specs.Meaning.{LawfulFirst};
-ghost use Rattle.matrix.specs.Machine.{verdictOf, verdictAt, control1, control2};
-ghost use Rattle.matrixhead.specs.Beginning.{HeadFrom};
+ghost use Rattle.matrix.specs.Machine.{verdictOf, control1, control2};
+ghost use Rattle.matrix.specs.Reached.{verdictAt};
+ghost use Rattle.matrixhead.specs.Parts.{HeadFrom};
 use crate::control::first_of;
 use crate::control::least_for;
 use crate::control::least_values;
@@ -16,20 +17,13 @@ use crate::judge::judge_size;
 use matrix::Fields;
 use verdict::Judged;
 use verdict::Refusal;
+use word::bytes::byte_at;
 
 // Lawful fields, or why there are none.
 pub(crate) enum Head {
     Fields(Fields),
     Unfinished(usize),
     Refused(Refusal),
-}
-
-// The byte at a place.
-pub(crate) fn byte(bytes: &[u8], place: usize) -> usize
-    requires { ⌜ place < length (now bytes) ⌝ }
-    ensures { λ r. ⌜ (r ≡ getD (now (bytes .entry)) place 0) × (r < 256) ⌝ }
-{
-    bytes[place] as usize
 }
 
 // From control byte 2 on, behind the size and control byte 1.
@@ -40,7 +34,7 @@ fn from_control2(bytes: &[u8], f: Fields) -> Head
     if bytes.len() == 2 {
         return Head::Unfinished(1 + least_values(f));
     }
-    let d = byte(bytes, 2);
+    let d = byte_at(bytes, 2);
     let fields = second_of(f, d);
     let judged = judge_control2(fields, d);
     match judged {
@@ -57,7 +51,7 @@ fn from_control1(bytes: &[u8], n: usize) -> Head
     if bytes.len() == 1 {
         return Head::Unfinished(2 + least_for(n));
     }
-    let c = byte(bytes, 1);
+    let c = byte_at(bytes, 1);
     let f = first_of(n, c);
     let judged = judge_control1(f, c);
     match judged {
@@ -72,7 +66,7 @@ pub(crate) fn header(bytes: &[u8]) -> Head
     if bytes.len() == 0 {
         return Head::Unfinished(4);
     }
-    let n = byte(bytes, 0);
+    let n = byte_at(bytes, 0);
     let judged = judge_size(n);
     match judged {
         Judged::Kept => from_control1(bytes, n),

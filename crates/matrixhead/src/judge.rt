@@ -3,7 +3,7 @@ ghost use mathlib.Core.Path.{_≡_};
 ghost use Prim.Native.Nat.{_≤_, _-_, _*_};
 ghost use Rattle.rule.specs.Rules.{allowed};
 ghost use Rattle.matrix.specs.Meaning.{pairs};
-ghost use Rattle.matrix.specs.Spelling.{vectorBytes};
+ghost use Rattle.matrix.specs.Header.{vectorBytes};
 ghost use Rattle.matrix.specs.Table.{sizeRows, coefficientRows, deviationRows, control1Rows, control2Rows, fieldRows, vectorRows};
 ghost use Rattle.verdict.specs.Judgement.{judgement};
 ghost use Rattle.matrixhead.specs.Judging.{allowedBy};

@@ -1,12 +1,14 @@
 // What stands before the words of a matrix pack: its fields, and how many coefficients are sent.
 ghost use mathlib.Core.Path.{_≡_};
 ghost use Rattle.matrix.specs.Machine.{verdictOf};
-ghost use Rattle.matrixhead.specs.Beginning.{Headed, BegunFrom, begunOf};
-use crate::control::vector_bytes;
+ghost use Rattle.matrixhead.specs.Beginning.{begunOf};
+ghost use Rattle.matrixhead.specs.Parts.{Headed, BegunFrom};
 use crate::header::Head;
 use crate::header::header;
 use crate::vector::Sent;
 use crate::vector::sent_of;
+use counts::header_bytes;
+use counts::vector_bytes;
 use matrix::Fields;
 use verdict::Refusal;
 
@@ -35,7 +37,7 @@ fn from_values(bytes: &[u8], f: Fields) -> Begun
     match answer {
         Sent::Count(sent) => Begun::Values {
             fields: f,
-            words: 3 + vector_bytes(f),
+            words: header_bytes(f) + vector_bytes(f),
             sent,
         },
         Sent::Unfinished(missing) => Begun::Unfinished(missing),

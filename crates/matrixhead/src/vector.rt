@@ -4,17 +4,18 @@ ghost use Prim.Native.Nat.{_+_, _*_, _≤_};
 ghost use mathlib.Core.Bool.{true};
 ghost use lib.ListN.{length, take, drop};
 ghost use Rattle.matrix.specs.Meaning.{sum, LawfulFields};
-ghost use Rattle.matrix.specs.Spelling.{bits, vectorBytes};
+ghost use Rattle.matrix.specs.Header.{headerBytes, vectorBytes, bits};
 ghost use Rattle.matrix.specs.Machine.{fewest};
-ghost use Rattle.matrixhead.specs.Beginning.{SentFrom};
-use crate::control::pairs_of;
-use crate::control::vector_bytes;
-use crate::header::byte;
+ghost use Rattle.matrixhead.specs.Parts.{SentFrom};
 use crate::judge::judge_vector;
+use counts::header_bytes;
+use counts::pairs_of;
+use counts::vector_bytes;
 use matrix::Fields;
 use verdict::Judged;
 use verdict::Refusal;
 use word::bytes::Read;
+use word::bytes::byte_at;
 use word::bytes::read_at;
 
 // How many coefficients are sent, or why that is not known.
@@ -77,20 +78,20 @@ fn fewest_of(f: Fields, sent: usize) -> usize
     sent
 }
 
-// The whole vector.
-fn from_vector(bytes: &[u8], f: Fields, count: usize) -> Sent
-    requires { ⌜ LawfulFields f × (3 ≤ length (now bytes)) × (f .cs ≡ true) × (count ≡ vectorBytes f) ⌝ }
+// The vector of so many bytes behind the header.
+fn from_vector(bytes: &[u8], f: Fields, start: usize, count: usize) -> Sent
+    requires { ⌜ LawfulFields f × (start ≤ length (now bytes)) × (f .cs ≡ true) × (count ≡ vectorBytes f) × (start ≡ headerBytes f) ⌝ }
     ensures { λ r. ⌜ SentFrom (now (bytes .entry)) f r ⌝ }
 {
-    let there = bytes.len() - 3;
+    let there = bytes.len() - start;
     if there < count {
-        let sent = ones(bytes, 3, there);
+        let sent = ones(bytes, start, there);
         return Sent::Unfinished(count - there + (f.n * f.slen + fewest_of(f, sent) * f.clen));
     }
-    let sent = ones(bytes, 3, count);
-    let last = 2 + count;
+    let sent = ones(bytes, start, count);
+    let last = start + count - 1;
     let unused = count * 8 - pairs_of(f.n);
-    let judged = judge_vector(f, sent, byte(bytes, last), unused);
+    let judged = judge_vector(f, sent, byte_at(bytes, last), unused);
     match judged {
         Judged::Kept => Sent::Count(sent),
         Judged::Broken(reason) => Sent::Refused(Refusal {
@@ -102,11 +103,11 @@ fn from_vector(bytes: &[u8], f: Fields, count: usize) -> Sent
 
 // From behind the control bytes to the first word.
 pub(crate) fn sent_of(bytes: &[u8], f: Fields) -> Sent
-    requires { ⌜ LawfulFields f × (3 ≤ length (now bytes)) ⌝ }
+    requires { ⌜ LawfulFields f × (headerBytes f ≤ length (now bytes)) ⌝ }
     ensures { λ r. ⌜ SentFrom (now (bytes .entry)) f r ⌝ }
 {
     if f.cs {
-        return from_vector(bytes, f, vector_bytes(f));
+        return from_vector(bytes, f, header_bytes(f), vector_bytes(f));
     }
     if f.clen == 0 {
         return Sent::Count(0);

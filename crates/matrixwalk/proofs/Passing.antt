@@ -22,9 +22,10 @@ use Rattle.rule.specs.Rules.{Sound, Keeps, cleared}
 use Rattle.rule.proofs.Certain.{sign-whole, cleared-first}
 use Rattle.word.specs.Bytes.{wordAt}
 use Rattle.word.proofs.Digits.{Below, bytes-bits, word-below, word-front}
-use Rattle.matrix.specs.Machine.{State, word, Run, enter, enterWord, inWord, restOf, runBytes, step, least, verdictAt, verdictBehind}
+use Rattle.matrix.specs.Machine.{State, word, Run, enter, enterWord, inWord, restOf, runBytes, step, least}
+use Rattle.matrix.specs.Reached.{verdictAt, verdictBehind}
 use Rattle.matrixwalk.specs.declared.words.Passed.the-variants.{Unfinished as PassedUnfinished, Refused as PassedRefused}
-use Rattle.matrixwalk.specs.Walk.{maskOf, overAt, wordOf, runOf, LookedAt, Judges, Checks, PassedTo, PassedFrom}
+use Rattle.matrixwalk.specs.Parts.{maskOf, overAt, wordOf, runOf, LookedAt, Judges, Checks, PassedTo, PassedFrom}
 use Rattle.matrix.proofs.Begun.{cleared-none, run-empty}
 use Rattle.matrix.proofs.Keeping.{first-sign}
 

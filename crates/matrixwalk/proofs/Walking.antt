@@ -3,7 +3,7 @@ use Prim.Native.Nat.{ℕ, _+_, _*_}
 use mathlib.Core.Path.{_≡_, refl, sym, ap, ap₂, _∙_}
 use mathlib.Core.List.{List, [], _∷_}
 use native.Mathlib.Omega.{arith}
-use lib.ListN.{length, take, drop}
+use lib.ListN.{length}
 use Rattle.verdict.specs.declared.Verdict.{Verdict}
 use Rattle.verdict.specs.declared.Verdict.the-variants.{Complete, Unfinished, Refused}
 use Rattle.verdict.specs.Machine.{led}
@@ -14,11 +14,13 @@ use Rattle.matrix.specs.declared.Fields.{Fields}
 use Rattle.matrixwalk.specs.declared.Found.{Found}
 use Rattle.matrixwalk.specs.declared.Walked.{Walked}
 use Rattle.matrixwalk.specs.declared.Walked.the-variants.{Whole, Unfinished as WalkedUnfinished, Refused as WalkedRefused}
-use Rattle.matrix.specs.Meaning.{sum, LawfulFields}
-use Rattle.matrix.specs.Spelling.{vectorBytes, fieldsOf, marksOf}
-use Rattle.matrixhead.specs.Beginning.{BegunBy}
-use Rattle.matrix.specs.Machine.{Run, enter, runBytes, verdictOf, verdictBehind}
-use Rattle.matrixwalk.specs.Walk.{ruleIn, runOf, PassedTo, Deviated, FoundIn, WalkFrom, walkedFor, walkedOf}
+use Rattle.matrix.specs.Meaning.{LawfulFields}
+use Rattle.matrix.specs.Header.{fieldsOf, sentIn, wordsFrom}
+use Rattle.matrixhead.specs.Parts.{BegunBy}
+use Rattle.matrix.specs.Machine.{Run, enter, runBytes, verdictOf}
+use Rattle.matrix.specs.Reached.{verdictBehind}
+use Rattle.matrixwalk.specs.Walk.{walkedFor, walkedOf}
+use Rattle.matrixwalk.specs.Parts.{ruleIn, runOf, PassedTo, PastDeviations, FoundIn, WalkFrom}
 
 -- the rules that lawful fields choose
 module _ (f : Fields) (g : LawfulFields f) where
@@ -44,7 +46,7 @@ module _ (bytes : List ℕ) (f : Fields) (sent words : ℕ) (rule : Rule) where
     pub deviations-end : (v : Verdict) → ((runs : List Run) → runBytes runs ≡ sent * f .clen → verdictBehind (enter (runOf rule (f .n) ∷ runs)) bytes words ≡ v) → verdictOf bytes ≡ v
     deviations-end v x = to-deviations ∙ x behind behind-bytes
 
-    pub deviations-passed : (place : ℕ) → PassedTo bytes words (f .n) rule (sent * f .clen) place → Deviated bytes f words sent place
+    pub deviations-passed : (place : ℕ) → PassedTo bytes words (f .n) rule (sent * f .clen) place → PastDeviations bytes f words sent place
     deviations-passed place p =
         record {
           begun = b;
@@ -53,7 +55,7 @@ module _ (bytes : List ℕ) (f : Fields) (sent words : ℕ) (rule : Rule) where
           leads = to-deviations ∙ p .leads behind behind-bytes;
         }
 
-  module _ (place : ℕ) (d : Deviated bytes f words sent place) (e : rule ≡ coefficientRule (f .cf) (f .clen)) where
+  module _ (place : ℕ) (d : PastDeviations bytes f words sent place) (e : rule ≡ coefficientRule (f .cf) (f .clen)) where
     to-coefficients : verdictOf bytes ≡ verdictBehind (enter (runOf rule sent ∷ [])) bytes place
     to-coefficients = rw e (d .leads)
 
@@ -76,8 +78,8 @@ module _ (bytes : List ℕ) (f : Fields) (sent words : ℕ) (rule : Rule) where
 found-same : (bytes : List ℕ) (found : Found) → FoundIn bytes found → Whole found ≡ walkedFor bytes (Complete (found .length))
 found-same bytes found x =
     let e = x .begun .same in
-    let w : found .words ≡ 3 + vectorBytes (fieldsOf bytes) = x .begun .start ∙ ap (λ (f : Fields). 3 + vectorBytes f) e in
-    let s : found .sent ≡ sum (marksOf (fieldsOf bytes) (take (vectorBytes (fieldsOf bytes)) (drop 3 bytes))) = x .begun .marked ∙ ap (λ (f : Fields). sum (marksOf f (take (vectorBytes f) (drop 3 bytes)))) e in
+    let w : found .words ≡ wordsFrom (fieldsOf bytes) = x .begun .start ∙ ap wordsFrom e in
+    let s : found .sent ≡ sentIn (fieldsOf bytes) bytes = x .begun .marked ∙ ap (λ (f : Fields). sentIn f bytes) e in
     ap (λ (f : Fields). Whole (record { fields = f; words = found .words; sent = found .sent; length = found .length })) e
     ∙ ap₂ (λ (p k : ℕ). Whole (record { fields = fieldsOf bytes; words = p; sent = k; length = found .length })) w s
 

@@ -1,132 +1,19 @@
--- What each part of the reader promises: its answer is the run's from where it stands.
-use Prim.Native.Nat.{ℕ, suc, _+_, _-_, _*_, _/_, _^_, _≤_, _<_}
-use mathlib.Core.Path.{_≡_}
-use mathlib.Core.Bool.{cond}
-use mathlib.Core.List.{List, [], _∷_}
-use lib.ListN.{length, take, drop}
-use lib.Dec.{eqb}
-use Rattle.verdict.specs.declared.Reason.the-variants.{ValueRange}
+-- What a walk over a matrix pack answers.
+use Prim.Native.Nat.{ℕ}
+use mathlib.Core.List.{List}
 use Rattle.verdict.specs.declared.Verdict.{Verdict}
 use Rattle.verdict.specs.declared.Verdict.the-variants.{Complete, Unfinished, Refused}
-use Rattle.rule.specs.declared.rules.Rule.{Rule}
-use Rattle.rule.specs.declared.rules.Ruled.{Ruled}
-use Rattle.rule.specs.declared.rules.Ruled.the-variants.{By, Refused as RuledRefused}
-use Rattle.rule.specs.declared.rules.Form.{Form}
-use Rattle.rule.specs.Rules.{Sound, coefficientRule, ruleOf}
-use Rattle.matrix.specs.declared.Fields.{Fields}
-use Rattle.matrixwalk.specs.declared.words.Passed.{Passed}
-use Rattle.matrixwalk.specs.declared.words.Passed.the-variants.{To, Unfinished as PassedUnfinished, Refused as PassedRefused}
+use Rattle.matrix.specs.Header.{fieldsOf, sentIn, wordsFrom}
+use Rattle.matrix.specs.Machine.{verdictOf}
 use Rattle.matrixwalk.specs.declared.Found.{Found}
 use Rattle.matrixwalk.specs.declared.Walked.{Walked}
 use Rattle.matrixwalk.specs.declared.Walked.the-variants.{Whole, Unfinished as WalkedUnfinished, Refused as WalkedRefused}
-use Rattle.matrix.specs.Meaning.{sum}
-use Rattle.matrix.specs.Spelling.{vectorBytes, fieldsOf, marksOf}
-use Rattle.matrix.specs.Machine.{State, word, Run, enter, runBytes, verdictOf, verdictAt, verdictBehind}
-use Rattle.matrixhead.specs.Beginning.{BegunBy}
-
--- ---- words
-
--- what of a word's first byte counts
-abbrev pub maskOf : Rule → ℕ
-maskOf rule = cond (eqb (rule .sign) 0) 255 127
-
-abbrev pub overAt : ℕ → Verdict
-overAt place = Refused (record { reason = ValueRange; place = place })
-
--- at the first byte of a word of a rule, with these words behind it
-abbrev pub wordOf : Rule → Run → List Run → State
-wordOf rule run runs = word (rule .length - 1) (rule .sign / 256 ^ (rule .length - 1)) (rule .greatest) run runs
-
--- a word of a sound rule begins at a place, and is looked at up to another
-pub record LookedAt (bytes : List ℕ) (place until : ℕ) (rule : Rule) : Type 0 where
-  pub sound : Sound rule
-  pub some : 1 ≤ rule .length
-  pub before : place < until
-  pub within : until ≤ length bytes
-
--- up to `until` a word breaks its rule at a byte, or nowhere
-pub record Judges (bytes : List ℕ) (place until : ℕ) (rule : Rule) (broken : ℕ) : Type 0 where
-  pub within : broken ≤ until
-  pub over : broken < until → (run : Run) (runs : List Run) → verdictAt (wordOf rule run runs) bytes place ≡ overAt broken
-  pub whole : broken ≡ until → place + rule .length ≤ until → (run : Run) (runs : List Run) → verdictAt (wordOf rule run runs) bytes place ≡ verdictBehind (enter (run ∷ runs)) bytes (place + rule .length)
-  pub cut : broken ≡ until → until < place + rule .length → until ≡ length bytes → (run : Run) (runs : List Run)
-      → verdictAt (wordOf rule run runs) bytes place ≡ Unfinished (place + rule .length - until + runBytes (run ∷ runs))
-
-abbrev pub runOf : Rule → ℕ → Run
-runOf rule count = record { rule = rule; count = count }
-
--- words of a form and its rule begin at a place, and are looked at up to another
-pub record Checkable (bytes : List ℕ) (place until : ℕ) (rule : Rule) (form : Form) : Type 0 where
-  pub sound : Sound rule
-  pub some : 1 ≤ rule .length
-  pub forward : place ≤ until
-  pub within : until ≤ length bytes
-  pub formed : rule ≡ ruleOf form
-  pub as-long : rule .length ≡ form .length
-
--- up to `until` some words of a rule break it at a byte, or nowhere
-pub record Checks (bytes : List ℕ) (place until : ℕ) (rule : Rule) (broken : ℕ) : Type 0 where
-  pub within : broken ≤ until
-  pub over : broken < until → (count : ℕ) (runs : List Run) → until ≤ place + count * rule .length → verdictBehind (enter (runOf rule count ∷ runs)) bytes place ≡ overAt broken
-  pub whole : broken ≡ until → (count : ℕ) (runs : List Run) → until ≡ place + count * rule .length → verdictBehind (enter (runOf rule count ∷ runs)) bytes place ≡ verdictBehind (enter runs) bytes until
-  pub cut : broken ≡ until → (count : ℕ) (runs : List Run) → until < place + count * rule .length → until ≡ length bytes
-      → verdictBehind (enter (runOf rule count ∷ runs)) bytes place ≡ Unfinished (place + count * rule .length - until + runBytes runs)
-
--- up to `until` no word of an unsigned rule breaks it whose greatest word's first byte is not below this
-abbrev pub SettledUnder : List ℕ → ℕ → ℕ → ℕ → ℕ → Type 0
-SettledUnder bytes place until n limit = (rule : Rule) → Sound rule → rule .sign ≡ 0 → rule .length ≡ n → limit ≤ rule .greatest / 256 ^ (rule .length - 1) → Checks bytes place until rule until
-
--- and none of one whose greatest word has a higher first byte than this
-abbrev pub SettledBelow : List ℕ → ℕ → ℕ → ℕ → ℕ → Type 0
-SettledBelow bytes place until n most = SettledUnder bytes place until n (suc most)
-
--- and none of any rule whose greatest word begins higher than this with two bytes, of which so much counts
-abbrev pub SettledByTwo : List ℕ → ℕ → ℕ → ℕ → ℕ → ℕ → Type 0
-SettledByTwo bytes place until n mask most =
-    (rule : Rule) → Sound rule → rule .length ≡ n → mask ≡ maskOf rule * 256 + 255 → most < rule .greatest / 256 ^ (rule .length - 2) → Checks bytes place until rule until
-
--- past some words, with so many bytes of words behind them
-pub record PassedTo (bytes : List ℕ) (place count : ℕ) (rule : Rule) (after next : ℕ) : Type 0 where
-  pub same : next ≡ place + count * rule .length
-  pub within : next ≤ length bytes
-  pub leads : (runs : List Run) → runBytes runs ≡ after → verdictBehind (enter (runOf rule count ∷ runs)) bytes place ≡ verdictBehind (enter runs) bytes next
-
-abbrev pub PassedFrom : List ℕ → ℕ → ℕ → Rule → ℕ → Passed → Type 0
-PassedFrom bytes place count rule after (To next) = PassedTo bytes place count rule after next
-PassedFrom bytes place count rule after (PassedUnfinished missing) = (runs : List Run) → runBytes runs ≡ after → verdictBehind (enter (runOf rule count ∷ runs)) bytes place ≡ Unfinished missing
-PassedFrom bytes place count rule after (PassedRefused refusal) = (runs : List Run) → runBytes runs ≡ after → verdictBehind (enter (runOf rule count ∷ runs)) bytes place ≡ Refused refusal
-
--- ---- the whole pack
-
--- the rule that was chosen; the one of no bytes where none was
-abbrev pub ruleIn : Ruled → Rule
-ruleIn (By rule) = rule
-ruleIn (RuledRefused refusal) = record { length = 0; sign = 0; greatest = 0 }
-
--- the deviations end at a place, and the coefficients that are sent follow
-pub record Deviated (bytes : List ℕ) (f : Fields) (words sent place : ℕ) : Type 0 where
-  pub begun : BegunBy bytes f words sent
-  pub same : place ≡ words + f .n * f .slen
-  pub within : place ≤ length bytes
-  pub leads : verdictOf bytes ≡ verdictBehind (enter (runOf (coefficientRule (f .cf) (f .clen)) sent ∷ [])) bytes place
-
--- a whole pack was found
-pub record FoundIn (bytes : List ℕ) (found : Found) : Type 0 where
-  pub begun : BegunBy bytes (found .fields) (found .words) (found .sent)
-  pub end : found .length ≡ found .words + found .fields .n * found .fields .slen + found .sent * found .fields .clen
-  pub within : found .length ≤ length bytes
-  pub said : verdictOf bytes ≡ Complete (found .length)
-
-abbrev pub WalkFrom : List ℕ → Walked → Type 0
-WalkFrom bytes (Whole found) = FoundIn bytes found
-WalkFrom bytes (WalkedUnfinished missing) = verdictOf bytes ≡ Unfinished missing
-WalkFrom bytes (WalkedRefused refusal) = verdictOf bytes ≡ Refused refusal
 
 -- what a walk finds of a complete pack: its fields, the place of its first word, how many coefficients are sent and its length
 abbrev pub foundOf : List ℕ → ℕ → Found
 foundOf bytes n =
     let f = fieldsOf bytes in
-    record { fields = f; words = 3 + vectorBytes f; sent = sum (marksOf f (take (vectorBytes f) (drop 3 bytes))); length = n }
+    record { fields = f; words = wordsFrom f; sent = sentIn f bytes; length = n }
 
 -- what a walk answers: what it found, or the verdict
 abbrev pub walkedFor : List ℕ → Verdict → Walked

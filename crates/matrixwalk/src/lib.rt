@@ -1,7 +1,8 @@
 // One pass over a matrix pack: what was found of a whole one, or why there is none.
 ghost use mathlib.Core.Path.{_≡_};
-ghost use Rattle.matrixhead.specs.Beginning.{BegunBy};
-ghost use Rattle.matrixwalk.specs.Walk.{ruleIn, Deviated, WalkFrom, walkedOf};
+ghost use Rattle.matrixhead.specs.Parts.{BegunBy};
+ghost use Rattle.matrixwalk.specs.Walk.{walkedOf};
+ghost use Rattle.matrixwalk.specs.Parts.{ruleIn, PastDeviations, WalkFrom};
 use crate::words::Passed;
 use crate::words::pass;
 use matrix::Fields;
@@ -46,7 +47,7 @@ fn chosen(ruled: Ruled) -> Rule
 
 // Behind the deviations, which end at `place`.
 fn from_coefficients(bytes: &[u8], f: Fields, words: usize, sent: usize, place: usize) -> Walked
-    requires { ⌜ Deviated (now bytes) f words sent place ⌝ }
+    requires { ⌜ PastDeviations (now bytes) f words sent place ⌝ }
     ensures { λ r. ⌜ WalkFrom (now (bytes .entry)) r ⌝ }
 {
     let rule = chosen(coefficient_rule(f.cf, f.clen));

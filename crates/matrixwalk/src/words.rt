@@ -1,17 +1,19 @@
 // The words of a matrix pack against their rule: a word's first byte mostly settles it, and no byte is looked at that cannot change the answer.
 ghost use mathlib.Core.Path.{_≡_};
 ghost use mathlib.Core.Bool.{true};
-ghost use Prim.Native.Nat.{_+_, _-_, _*_, _/_, _%_, _^_, _≤_, _<_, min};
+ghost use Prim.Native.Nat.{_+_, _-_, _*_, _/_, _%_, _^_, _≤_, _<_};
 ghost use lib.Bits.{bitAnd};
 ghost use lib.ListN.{length as count, getD};
 ghost use Rattle.rule.specs.Rules.{Sound, cleared, ruleOf};
 ghost use Rattle.word.specs.Bytes.{wordAt};
-ghost use Rattle.matrixwalk.specs.Walk.{maskOf, LookedAt, Judges, Checkable, Checks, SettledUnder, SettledBelow, SettledByTwo, PassedFrom};
+ghost use Rattle.matrixwalk.specs.Parts.{maskOf, LookedAt, Judges, Checkable, Checks, SettledUnder, SettledBelow, SettledByTwo, PassedFrom};
 use rule::rules::Form;
 use rule::rules::Rule;
 use verdict::Reason;
 use verdict::Refusal;
+use verdict::lesser;
 use word::bytes::Read;
+use word::bytes::byte_at;
 use word::bytes::read_at;
 
 // The place behind some words that keep their rule, or why there is none.
@@ -19,20 +21,6 @@ pub(crate) enum Passed {
     To(usize),
     Unfinished(usize),
     Refused(Refusal),
-}
-
-fn lesser(a: usize, b: usize) -> usize
-    ensures { λ r. ⌜ r ≡ min a b ⌝ }
-{
-    if a < b { a } else { b }
-}
-
-// The byte at a place.
-fn byte(bytes: &[u8], place: usize) -> usize
-    requires { ⌜ place < count (now bytes) ⌝ }
-    ensures { λ r. ⌜ (r ≡ getD (now (bytes .entry)) place 0) × (r < 256) ⌝ }
-{
-    bytes[place] as usize
 }
 
 // Below so many bytes a loop over words is not worth making wide.
@@ -63,7 +51,7 @@ fn tight_word(bytes: &[u8], at: usize, until: usize, rule: Rule) -> usize
     let mut i = at + 1;
     while i < stop {
         let limit = limit_at(rule.greatest, end - 1 - i);
-        let b = byte(bytes, i);
+        let b = byte_at(bytes, i);
         if limit < b {
             return i;
         }
@@ -114,7 +102,7 @@ fn judge_word(
     requires { ⌜ LookedAt (now bytes) at until rule × (rule ≡ ruleOf form) × (rule .length ≡ form .length) × (mask ≡ maskOf rule) × (first ≡ rule .greatest / 256 ^ (rule .length - 1)) ⌝ }
     ensures { λ r. ⌜ Judges (now (bytes .entry)) at until rule r ⌝ }
 {
-    let b = byte(bytes, at) & mask;
+    let b = byte_at(bytes, at) & mask;
     if first < b {
         return at;
     }

@@ -1,4 +1,3 @@
-pub mod RoundTrip
 pub mod Spelled
 pub mod Putting
 pub mod Parts

@@ -17,10 +17,11 @@ use Rattle.word.proofs.Words.{length-bytes, left-written}
 use Rattle.word.proofs.Gathered.{all-below}
 use Rattle.matrix.specs.declared.Fields.{Fields}
 use Rattle.matrix.specs.Meaning.{sum}
-use Rattle.matrix.specs.Spelling.{control1, control2, packed, spelled}
+use Rattle.matrix.specs.Spelling.{packed, spelled}
+use Rattle.matrix.specs.Header.{control1, control2, headerOf, headerBytes}
 use Rattle.matrix.proofs.BitVector.{length-packed}
 use Rattle.matrix.proofs.Decoding.{length-spelled, length-ones}
-use Rattle.unpack.proofs.Sums.{sum-more, sum-first-most}
+use Rattle.matrix.proofs.Sums.{sum-more, sum-first-most}
 use Rattle.matrixwriter.specs.Sending.{Sendable}
 use Rattle.matrixwriter.proofs.Spelled.{spelled-none, spelled-more, all-spelled, full-spelled, packed-more, bitsFrom}
 
@@ -32,7 +33,8 @@ unsent-put out place size mark word e = rw (e, zero-mul size) (sym (put-none out
 pub sent-put : (out : List ℕ) (place size mark word : ℕ) (out′ : List ℕ) → mark ≡ 1 → out′ ≡ put out place (digits 256 size word) → out′ ≡ put out place (digits 256 (mark * size) word)
 sent-put out place size mark word out′ e p = rw (e, one-mul size) p
 
-pub header-put : (f : Fields) (out : List ℕ) (a b : ℕ) → a ≡ control1 f → b ≡ control2 f → 3 ≤ length out → set (set (set out 0 (f .n)) 1 a) 2 b ≡ put out 0 (f .n ∷ control1 f ∷ control2 f ∷ [])
+pub header-put : (f : Fields) (out : List ℕ) (a b : ℕ) → a ≡ control1 f → b ≡ control2 f → headerBytes f ≤ length out → set (set (set out 0 (f .n)) 1 a) 2 b ≡ put out 0 (headerOf f)
+unfolding headerOf headerBytes
 header-put f out a b e g h = rw (e, g) (put-three out 0 (f .n) (control1 f) (control2 f) (omega arith))
 
 -- ---- one after the other

@@ -1,4 +1,4 @@
--- What the parts of the writer of matrix packs know of each other.
+-- For private functions alone: what the parts of the writer of matrix packs know of each other.
 use Prim.Native.Nat.{ℕ, _^_, _≤_, _<_}
 use mathlib.Core.Path.{_≡_}
 use mathlib.Core.List.{List}
@@ -21,6 +21,6 @@ pub record Sendable (size : ℕ) (marks words : List ℕ) : Type 0 where
   pub fitting : (i : ℕ) → getD marks i 0 ≡ 1 → getD words i 0 < 256 ^ size
 
 -- deviations that have bytes can be sent
-pub record Deviated (f : Fields) (deviations : List ℕ) : Type 0 where
+pub record DeviationsFit (f : Fields) (deviations : List ℕ) : Type 0 where
   pub enough : f .n ≤ length deviations
   pub sendable : 0 < f .slen → Sendable (f .slen) (replicate (f .n) 1) deviations

@@ -1,30 +1,26 @@
 // The bytes of a lawful pack, put one after the other where there is room.
 ghost use mathlib.Core.Path.{_≡_};
 ghost use mathlib.Core.Bool.{false, cond};
-ghost use mathlib.Core.List.{[], _∷_, _++_};
-ghost use Prim.Native.Nat.{ℕ, _+_, _*_, _/_, _^_, _≤_, _<_, min};
+ghost use mathlib.Core.List.{_++_};
+ghost use Prim.Native.Nat.{ℕ, _+_, _*_, _^_, _≤_, _<_, min};
 ghost use lib.ListN.{length as count, take, drop, replicate, getD};
 ghost use Rattle.verdict.specs.Writing.{put, roomRows, WrittenBy};
 ghost use Rattle.word.specs.Digits.{digits, valueOf};
 ghost use Rattle.matrix.specs.Meaning.{pairs, sum, LawfulFields, Lawful};
-ghost use Rattle.matrix.specs.Spelling.{control1, control2, vectorBytes, packed, spelled, bytesOf};
+ghost use Rattle.matrix.specs.Spelling.{packed, spelled, bytesOf};
+ghost use Rattle.matrix.specs.Header.{headerOf, headerBytes, vectorBytes};
 ghost use Rattle.matrixcheck.specs.Given.{sentWords, deviationMarks, meaningGiven};
 ghost use Rattle.matrixcheck.specs.Checking.{Enough};
-ghost use Rattle.matrixwriter.specs.Sending.{LawfulGiven, Sendable, Deviated};
+ghost use Rattle.matrixwriter.specs.Sending.{LawfulGiven, Sendable, DeviationsFit};
+use counts::header_bytes;
+use counts::pairs_of;
+use counts::vector_bytes;
 use matrix::Fields;
 use verdict::Reason;
-use verdict::Refusal;
 use verdict::Verdict;
+use verdict::refuse;
 use word::bytes::write_at;
 use word::many::write_all;
-
-// M, how many pairs of variables there are.
-fn pairs_of(n: usize) -> usize
-    requires { ⌜ (1 ≤ n) × (n ≤ 64) ⌝ }
-    ensures { λ r. ⌜ r ≡ pairs n ⌝ }
-{
-    n * (n - 1) / 2
-}
 
 // A word in so many bytes at a place.
 fn put_word(out: &mut [u8], place: usize, length: usize, word: u64)
@@ -54,8 +50,8 @@ fn bit_of(flag: bool) -> usize
 
 // The size and the control bytes.
 fn put_header(f: Fields, out: &mut [u8])
-    requires { ⌜ LawfulFields f × (3 ≤ count (now out)) ⌝ }
-    ensures { λ _. ⌜ now (out .exit) ≡ put (now (out .entry)) 0 (f .n ∷ control1 f ∷ control2 f ∷ []) ⌝ }
+    requires { ⌜ LawfulFields f × (headerBytes f ≤ count (now out)) ⌝ }
+    ensures { λ _. ⌜ now (out .exit) ≡ put (now (out .entry)) 0 (headerOf f) ⌝ }
 {
     let coefficients = 128 + (bit_of(f.cs) * 32 + (bit_of(f.cf) * 16 + f.clen));
     let deviations = bit_of(f.sf) * 16 + f.slen;
@@ -89,14 +85,14 @@ fn vector_byte(marks: &[u8], pair: usize, pairs: usize) -> u8
     value as u8
 }
 
-// So many bytes of the bit vector, behind the control bytes.
-fn put_vector(out: &mut [u8], marks: &[u8], pairs: usize, bytes: usize)
-    requires { ⌜ (pairs ≤ count (now marks)) × ((bytes ≤ 252) × ((3 + bytes ≤ count (now out)) × ((i : ℕ) → getD (take pairs (now marks)) i 0 ≤ 1))) ⌝ }
-    ensures { λ _. ⌜ now (out .exit) ≡ put (now (out .entry)) 3 (packed bytes (take pairs (now (marks .entry)))) ⌝ }
+// So many bytes of the bit vector at a place.
+fn put_vector(out: &mut [u8], place: usize, marks: &[u8], pairs: usize, bytes: usize)
+    requires { ⌜ (pairs ≤ count (now marks)) × ((bytes ≤ 252) × ((place + bytes ≤ count (now out)) × ((i : ℕ) → getD (take pairs (now marks)) i 0 ≤ 1))) ⌝ }
+    ensures { λ _. ⌜ now (out .exit) ≡ put (now (out .entry)) place (packed bytes (take pairs (now (marks .entry)))) ⌝ }
 {
     let mut i = 0;
     while i < bytes {
-        out[3 + i] = vector_byte(marks, 8 * i, pairs);
+        out[place + i] = vector_byte(marks, 8 * i, pairs);
         i += 1;
     }
 }
@@ -155,17 +151,9 @@ fn put_coefficients(
     put_words(out, place, length, words, number);
 }
 
-// How many bytes the bit vector takes.
-fn vector_bytes(f: Fields, pairs: usize) -> usize
-    requires { ⌜ pairs ≤ 2016 ⌝ }
-    ensures { λ r. ⌜ r ≡ cond (f .cs) ((pairs + 7) / 8) 0 ⌝ }
-{
-    if f.cs { (pairs + 7) / 8 } else { 0 }
-}
-
 // The deviations, if they have bytes.
 fn put_deviations(f: Fields, deviations: &[u64], out: &mut [u8], place: usize)
-    requires { ⌜ Deviated f (now deviations) × (place + f .n * f .slen ≤ count (now out)) ⌝ }
+    requires { ⌜ DeviationsFit f (now deviations) × (place + f .n * f .slen ≤ count (now out)) ⌝ }
     ensures { λ _. ⌜ now (out .exit) ≡ put (now (out .entry)) place (spelled (f .slen) (replicate (f .n) 1) (sentWords 0 (deviationMarks f) (now (deviations .entry)))) ⌝ }
 {
     if f.slen == 0 {
@@ -177,10 +165,9 @@ fn put_deviations(f: Fields, deviations: &[u64], out: &mut [u8], place: usize)
 // How many bytes a pack takes of which so many coefficients are sent.
 fn length_of(f: Fields, sent: usize) -> usize
     requires { ⌜ LawfulFields f × (sent ≤ 2016) ⌝ }
-    ensures { λ r. ⌜ r ≡ 3 + (vectorBytes f + (f .n * f .slen + sent * f .clen)) ⌝ }
+    ensures { λ r. ⌜ r ≡ headerBytes f + (vectorBytes f + (f .n * f .slen + sent * f .clen)) ⌝ }
 {
-    let vector = vector_bytes(f, pairs_of(f.n));
-    3 + (vector + (f.n * f.slen + sent * f.clen))
+    header_bytes(f) + (vector_bytes(f) + (f.n * f.slen + sent * f.clen))
 }
 
 // The parts of a lawful pack, one behind the other.
@@ -189,11 +176,12 @@ fn put_given(f: Fields, deviations: &[u64], coefficients: &[u64], marks: &[u8], 
     ensures { λ _. ⌜ now (out .exit) ≡ put (now (out .entry)) 0 (bytesOf (meaningGiven f (now (deviations .entry)) (now (coefficients .entry)) (now (marks .entry)))) ⌝ }
 {
     let pairs = pairs_of(f.n);
-    let vector = vector_bytes(f, pairs);
-    let first = 3 + vector;
+    let header = header_bytes(f);
+    let vector = vector_bytes(f);
+    let first = header + vector;
     let second = first + f.n * f.slen;
     put_header(f, out);
-    put_vector(out, marks, pairs, vector);
+    put_vector(out, header, marks, pairs, vector);
     put_deviations(f, deviations, out, first);
     put_coefficients(f.cs, out, second, f.clen, coefficients, marks, pairs);
 }
@@ -212,10 +200,7 @@ pub(crate) fn write_given(
 {
     let length = length_of(f, sent);
     if out.len() < length {
-        return Verdict::Refused(Refusal {
-            reason: Reason::SmallBuffer,
-            place: 0,
-        });
+        return refuse(Reason::SmallBuffer);
     }
     put_given(f, deviations, coefficients, marks, out);
     Verdict::Complete(length)

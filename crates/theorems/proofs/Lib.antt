@@ -1,7 +1,11 @@
+pub mod MatrixVerdicts
 pub mod Said
 pub mod Frames
 pub mod Paper
+pub mod MatrixTrip
 pub mod Stored
+pub mod Noughts
+pub mod Symmetry
 pub mod ArrayTrip
 pub mod Starred
 pub mod Sample

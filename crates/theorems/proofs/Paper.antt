@@ -25,7 +25,7 @@ use Rattle.verdict.proofs.Deciding.{both-kept}
 use Rattle.verdict.proofs.Numbered.{packed-is-paper}
 use Rattle.matrix.specs.Spelling.{bytesOf as matrixBytes}
 use Rattle.matrix.specs.Machine.{verdictOf as matrixVerdict}
-use Rattle.matrix.proofs.Verdicts.{matrix-said}
+use Rattle.theorems.proofs.MatrixVerdicts.{matrix-said}
 use Rattle.matrix.proofs.Lengths.{matrix-short}
 use Rattle.array.specs.Meaning.{product}
 use Rattle.array.specs.Spelling.{bytesOf as arrayBytes}
@@ -43,7 +43,7 @@ use Rattle.unpack.specs.Unpacking.{UnpackedBy, ExpandedBy}
 use Rattle.verdict.specs.Lent.{saidFor}
 use Rattle.matrixcheck.specs.Given.{meaningGiven as matrixGiven}
 use Rattle.matrixwriter.specs.Writing.{writerRows as matrixRows}
-use Rattle.matrixwriter.proofs.RoundTrip.{writer-accepts as matrix-accepts}
+use Rattle.theorems.proofs.MatrixTrip.{writer-accepts as matrix-accepts}
 use Rattle.arraywriter.specs.Given.{meaningGiven as arrayGiven}
 use Rattle.arraywriter.proofs.RoundTrip.{writer-accepts as array-accepts}
 use Rattle.theorems.specs.Paper.{PaperBy}

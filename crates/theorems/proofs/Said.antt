@@ -8,7 +8,7 @@ use Rattle.verdict.specs.Says.{Bytes, Says}
 use Rattle.theorems.specs.Said.{SaidAlone}
 use Rattle.matrix.specs.Pack.{MatrixPack}
 use Rattle.matrix.specs.Table.{Why as MatrixWhy}
-use Rattle.matrix.proofs.Verdicts.{matrix-said, matrix-only}
+use Rattle.theorems.proofs.MatrixVerdicts.{matrix-said, matrix-only}
 use Rattle.matrixreader.proofs.verdict.Kinds as matrix
 use Rattle.matrixreader.proofs.verdict.Reads as matrix-reads
 use Rattle.array.specs.Spelling.{ArrayPack}

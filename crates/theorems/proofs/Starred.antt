@@ -14,7 +14,7 @@ use Rattle.verdict.specs.Says.{Bytes}
 use Rattle.word.specs.Digits.{digits}
 use Rattle.matrix.specs.Meaning.{sum}
 use Rattle.matrix.specs.Machine.{enter, runBytes, verdictOf}
-use Rattle.matrix.proofs.Verdicts.{matrix-said}
+use Rattle.theorems.proofs.MatrixVerdicts.{matrix-said}
 use Rattle.array.specs.Machine.{verdictOf as arrayVerdictOf}
 use Rattle.array.proofs.Verdicts.{array-said}
 use Rattle.theorems.specs.Rows.{Kind, matrix, array, Row, rows, SaysOf, Said}

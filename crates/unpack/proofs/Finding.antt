@@ -16,22 +16,28 @@ use Rattle.matrixwalk.proofs.Walking.{walk-said}
 use Rattle.matrix.proofs.Complete.{complete-meaning}
 use Rattle.matrix.proofs.Decoding.{pack-length}
 use Rattle.unpack.specs.Unpacking.{UnpackedBy, ExpandedBy}
-use Rattle.unpack.specs.Found.{Whole}
+use Rattle.unpack.specs.Found.{meaningFound, Whole}
 
 complete-whole : (bytes : List ℕ) → Bytes bytes → (n : ℕ) → verdictOf bytes ≡ Complete n → Whole bytes (foundOf bytes n)
 complete-whole bytes b n e =
     let x = complete-meaning bytes b n e in
-    record { lawful = x .0; fields = refl; start = refl; within = omega (arith, pack-length (meaningOf bytes), ap length (x .1), length-take n bytes) }
+    record { lawful = x .0; start = refl; within = omega (arith, pack-length (meaningOf bytes), ap length (x .1), length-take n bytes) }
+
+-- what was found is what the bytes have
+found-same : (bytes : List ℕ) (found : Found) → WalkedWhole found ≡ walkedOf bytes → found ≡ foundOf bytes (found .length)
+found-same bytes found w = inside (w ∙ ap (walkedFor bytes) (walk-said bytes (WalkedWhole found) w))
+  where
+    inside : {x y : Found} → WalkedWhole x ≡ WalkedWhole y → x ≡ y
+    inside e = cc
 
 -- a whole pack that was found stands in the bytes
 pub found-whole : (bytes : List ℕ) → Bytes bytes → (found : Found) → WalkedWhole found ≡ walkedOf bytes → Whole bytes found
 found-whole bytes b found w =
-    let e = walk-said bytes (WalkedWhole found) w in
-    let same : found ≡ foundOf bytes (found .length) = inside (w ∙ ap (walkedFor bytes) e) in
-    subst (Whole bytes) (sym same) (complete-whole bytes b (found .length) e)
-  where
-    inside : {x y : Found} → WalkedWhole x ≡ WalkedWhole y → x ≡ y
-    inside e = cc
+    subst (Whole bytes) (sym (found-same bytes found w)) (complete-whole bytes b (found .length) (walk-said bytes (WalkedWhole found) w))
+
+-- and has the meaning of the bytes
+pub found-meaning : (bytes : List ℕ) (found : Found) → WalkedWhole found ≡ walkedOf bytes → meaningFound bytes found ≡ meaningOf bytes
+found-meaning bytes found w = ap (λ (x : Found). meaningFound bytes x) (found-same bytes found w)
 
 -- where there is no whole pack, the verdict is answered and the lists stay
 module _ (bytes deviations coefficients marks : List ℕ) where

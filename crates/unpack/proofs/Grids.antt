@@ -11,10 +11,10 @@ use lib.ListN.{length, drop, getD, set, length-set, length-append, length-drop, 
 use lib.Seq.{ext-getD, getD-drop, getD-append-add, getD-set-same, getD-set-other}
 use Rattle.verdict.proofs.Cases.{either, or-left}
 use Rattle.matrix.specs.Meaning.{Matrix}
-use Rattle.unpack.specs.Arrangement.{square, wordAt, markAt, expandedWords, expandedMarks}
+use Rattle.matrix.specs.Expanded.{square, cellWord, cellMark, expandedWords, expandedMarks}
 use Rattle.verdict.specs.Lent.{over}
 use Rattle.unpack.specs.Cells.{Cells, Grid, Room}
-use Rattle.unpack.proofs.Squares.{cell-below, cell-one, length-listed, listed-at}
+use Rattle.matrix.proofs.Squares.{cell-below, cell-one, length-listed, listed-at}
 use Rattle.unpack.proofs.Tests.{tells-both, tells-equal}
 
 -- one cell alone
@@ -85,26 +85,26 @@ module _ (m : Matrix) where
   size = m .fields .n
 
   pub grid-none : (filled : ℕ → ℕ → Bool) (words marks : List ℕ) → ((i j : ℕ) → i < size → j < size → filled i j ≡ false) → Grid m filled words marks words marks
-  grid-none filled words marks none = record { words-filled = cells-none size (wordAt m) filled words none; marks-filled = cells-none size (markAt m) filled marks none }
+  grid-none filled words marks none = record { words-filled = cells-none size (cellWord m) filled words none; marks-filled = cells-none size (cellMark m) filled marks none }
 
-  pub grid-only : (a b word mark : ℕ) (words marks : List ℕ) → a < size → b < size → Room m words marks → word ≡ wordAt m a b → mark ≡ markAt m a b
+  pub grid-only : (a b word mark : ℕ) (words marks : List ℕ) → a < size → b < size → Room m words marks → word ≡ cellWord m a b → mark ≡ cellMark m a b
       → Grid m (only a b) words marks (set words (a * size + b) word) (set marks (a * size + b) mark)
   grid-only a b word mark words marks h k room e d =
-      record { words-filled = cells-only size (wordAt m) a b word words h k (room .for-words) e; marks-filled = cells-only size (markAt m) a b mark marks h k (room .for-marks) d }
+      record { words-filled = cells-only size (cellWord m) a b word words h k (room .for-words) e; marks-filled = cells-only size (cellMark m) a b mark marks h k (room .for-marks) d }
 
   module _ {words₀ marks₀ words₁ marks₁ : List ℕ} where
     pub grid-both : {f g : ℕ → ℕ → Bool} {words₂ marks₂ : List ℕ} (h : ℕ → ℕ → Bool) → ((i j : ℕ) → i < size → j < size → h i j ≡ f i j || g i j)
         → Grid m f words₀ marks₀ words₁ marks₁ → Grid m g words₁ marks₁ words₂ marks₂ → Grid m h words₀ marks₀ words₂ marks₂
     grid-both {f} {g} {words₂} {marks₂} h joins first then =
         record {
-          words-filled = cells-both size (wordAt m) f g h joins words₀ words₁ words₂ (first .words-filled) (then .words-filled);
-          marks-filled = cells-both size (markAt m) f g h joins marks₀ marks₁ marks₂ (first .marks-filled) (then .marks-filled);
+          words-filled = cells-both size (cellWord m) f g h joins words₀ words₁ words₂ (first .words-filled) (then .words-filled);
+          marks-filled = cells-both size (cellMark m) f g h joins marks₀ marks₁ marks₂ (first .marks-filled) (then .marks-filled);
         }
 
     pub grid-all : {filled : ℕ → ℕ → Bool} → ((i j : ℕ) → i < size → j < size → filled i j ≡ true) → Room m words₀ marks₀ → Grid m filled words₀ marks₀ words₁ marks₁
         → (words₁ ≡ over (expandedWords m) words₀) × (marks₁ ≡ over (expandedMarks m) marks₀)
     grid-all {filled} all room g =
-        (cells-all size (wordAt m) filled words₀ words₁ all (g .words-filled) (room .for-words), cells-all size (markAt m) filled marks₀ marks₁ all (g .marks-filled) (room .for-marks))
+        (cells-all size (cellWord m) filled words₀ words₁ all (g .words-filled) (room .for-words), cells-all size (cellMark m) filled marks₀ marks₁ all (g .marks-filled) (room .for-marks))
 
     pub room-kept : {filled : ℕ → ℕ → Bool} → Room m words₀ marks₀ → Grid m filled words₀ marks₀ words₁ marks₁ → Room m words₁ marks₁
     room-kept room g = record { for-words = omega (arith, room .for-words, g .words-filled .same-length); for-marks = omega (arith, room .for-marks, g .marks-filled .same-length) }

@@ -1,14 +1,8 @@
-pub mod Sums
-pub mod Bits
-pub mod Values
 pub mod Overlay
 pub mod Filling
 pub mod Answers
 pub mod Finding
-pub mod Squares
 pub mod Tests
 pub mod Grids
-pub mod Symmetry
 pub mod Rows
-pub mod Stored
 pub mod Only

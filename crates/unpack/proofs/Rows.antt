@@ -11,18 +11,17 @@ use lib.ListN.{length, getD, set}
 use Rattle.matrixwalk.specs.declared.Found.{Found}
 use Rattle.matrix.specs.Meaning.{Matrix, sum, pairs}
 use Rattle.matrix.specs.Order.{pairAt}
-use Rattle.matrix.specs.Spelling.{meaningOf}
 use Rattle.verdict.proofs.Cases.{either}
 use Rattle.matrix.proofs.Order.{place-below}
-use Rattle.unpack.specs.Arrangement.{expandedWords, expandedMarks}
+use Rattle.matrix.specs.Expanded.{expandedWords, expandedMarks}
 use Rattle.verdict.specs.Lent.{over}
 use Rattle.unpack.specs.Cells.{Grid, At, Room, diagonal, ofRow, ofRows}
-use Rattle.unpack.specs.Found.{Whole, coefficientAt}
+use Rattle.unpack.specs.Found.{meaningFound, coefficientAt, Whole}
 use Rattle.unpack.proofs.Filling.{coefficient-place}
-use Rattle.unpack.proofs.Squares.{cell-below}
+use Rattle.matrix.proofs.Squares.{cell-below}
 use Rattle.unpack.proofs.Tests.{Tells, tells-equal, tells-less, tells-both, tells-either, tells-always, tells-never}
 use Rattle.unpack.proofs.Grids.{only, grid-none, grid-only, grid-both, grid-all, room-kept}
-use Rattle.unpack.proofs.Symmetry.{word-alone, mark-alone, word-upper, word-lower, mark-upper, mark-lower}
+use Rattle.matrix.proofs.Expanded.{word-alone, mark-alone, word-upper, word-lower, mark-upper, mark-lower}
 
 -- ---- the order of pairs
 
@@ -160,8 +159,8 @@ module _ (m : Matrix) (words marks : List ℕ) where
   rows-none = grid-none m (ofRows 0) words marks (λ x y _ _. no-rows x y)
 
 -- the first coefficient is behind the deviations
-pub first-at : (bytes : List ℕ) (found : Found) → Whole bytes found → At (meaningOf bytes) found 0 1 (record { place = found .words + found .fields .n * found .fields .slen; pair = 0 })
+pub first-at : (bytes : List ℕ) (found : Found) → Whole bytes found → At (meaningFound bytes found) found 0 1 (record { place = found .words + found .fields .n * found .fields .slen; pair = 0 })
 unfolding sum
 first-at bytes found whole =
-    let m = meaningOf bytes in
+    let m = meaningFound bytes found in
     record { pair = sym (first-pair (m .fields .n)); place = omega (arith, coefficient-place bytes found whole 0) ∙ ap (coefficientAt m found) (sym (first-pair (m .fields .n))) }

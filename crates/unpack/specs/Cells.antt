@@ -1,4 +1,4 @@
--- Which cells of an n × n list by rows have been filled.
+-- For private functions alone: which cells of an n × n list by rows have been filled.
 use Prim.Native.Nat.{ℕ, _+_, _*_, _≤_, _<_, min, max}
 use mathlib.Core.Path.{_≡_}
 use mathlib.Core.Bool.{Bool, true, false, _&&_}
@@ -8,10 +8,9 @@ use lib.Dec.{eqb, ltb}
 use Rattle.matrixwalk.specs.declared.Found.{Found}
 use Rattle.matrix.specs.Meaning.{Matrix, nought}
 use Rattle.matrix.specs.Order.{pairAt}
-use Rattle.matrix.specs.Spelling.{meaningOf}
 use Rattle.unpack.specs.declared.cells.Next.{Next}
-use Rattle.unpack.specs.Arrangement.{wordAt, markAt}
-use Rattle.unpack.specs.Found.{Whole, coefficientAt}
+use Rattle.matrix.specs.Expanded.{cellWord, cellMark}
+use Rattle.unpack.specs.Found.{meaningFound, coefficientAt, Whole}
 
 -- these cells have their values, and every other entry is as it was
 pub record Cells (n : ℕ) (value : ℕ → ℕ → ℕ) (filled : ℕ → ℕ → Bool) (out₀ out : List ℕ) : Type 0 where
@@ -21,8 +20,8 @@ pub record Cells (n : ℕ) (value : ℕ → ℕ → ℕ) (filled : ℕ → ℕ �
 
 -- the words and marks of a meaning in these cells
 pub record Grid (m : Matrix) (filled : ℕ → ℕ → Bool) (words₀ marks₀ words marks : List ℕ) : Type 0 where
-  pub words-filled : Cells (m .fields .n) (wordAt m) filled words₀ words
-  pub marks-filled : Cells (m .fields .n) (markAt m) filled marks₀ marks
+  pub words-filled : Cells (m .fields .n) (cellWord m) filled words₀ words
+  pub marks-filled : Cells (m .fields .n) (cellMark m) filled marks₀ marks
 
 -- the first so many of the diagonal
 abbrev pub diagonal : ℕ → ℕ → ℕ → Bool
@@ -49,13 +48,13 @@ pub record Room (m : Matrix) (words marks : List ℕ) : Type 0 where
 -- before a row, whose first coefficient is the next
 pub record RowFrom (bytes : List ℕ) (found : Found) (none row : ℕ) (next : Next) (words marks : List ℕ) : Type 0 where
   pub whole : Whole bytes found
-  pub nought-is : none ≡ nought (meaningOf bytes .fields)
-  pub within : row < meaningOf bytes .fields .n
-  pub at : At (meaningOf bytes) found row (row + 1) next
-  pub room : Room (meaningOf bytes) words marks
+  pub nought-is : none ≡ nought (meaningFound bytes found .fields)
+  pub within : row < meaningFound bytes found .fields .n
+  pub at : At (meaningFound bytes found) found row (row + 1) next
+  pub room : Room (meaningFound bytes found) words marks
 
 -- before a row of a full matrix, whose coefficients have so many bytes each
 pub record FullRowFrom (bytes : List ℕ) (found : Found) (each row : ℕ) (next : Next) (words marks : List ℕ) : Type 0 where
-  pub from : RowFrom bytes found (nought (meaningOf bytes .fields)) row next words marks
+  pub from : RowFrom bytes found (nought (meaningFound bytes found .fields)) row next words marks
   pub full : found .fields .cs ≡ false
   pub length-is : each ≡ found .fields .clen

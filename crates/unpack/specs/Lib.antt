@@ -1,4 +1,3 @@
-pub mod Arrangement
 pub mod Unpacking
 pub mod Found
 pub mod Cells

@@ -10,7 +10,7 @@ use Rattle.verdict.specs.Lent.{saidFor, leftFor}
 use Rattle.matrix.specs.Meaning.{Matrix, pairs}
 use Rattle.matrix.specs.Spelling.{meaningOf}
 use Rattle.matrix.specs.Machine.{verdictOf}
-use Rattle.unpack.specs.Arrangement.{expandedWords, expandedMarks}
+use Rattle.matrix.specs.Expanded.{expandedWords, expandedMarks}
 
 -- N deviations, M coefficients and M marks have no room
 abbrev pub unpackShort : ℕ → List ℕ → List ℕ → List ℕ → Bool

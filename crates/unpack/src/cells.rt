@@ -2,19 +2,20 @@
 ghost use Prim.Native.Nat.{_+_, _<_};
 ghost use lib.ListN.{length as count, set};
 ghost use Rattle.verdict.specs.declared.Verdict.the-variants.{Complete};
-ghost use Rattle.matrix.specs.Spelling.{meaningOf};
 ghost use Rattle.unpack.specs.Unpacking.{ExpandedFor};
-ghost use Rattle.unpack.specs.Found.{Whole};
+ghost use Rattle.unpack.specs.Found.{meaningFound, Whole};
 ghost use Rattle.unpack.specs.Cells.{diagonal, ofRow, ofRows, Grid, At, Room, RowFrom, FullRowFrom};
 ghost use mathlib.Core.Path.{_≡_};
 use crate::words::mark_at;
-use crate::words::mark_of;
 use crate::words::nought_of;
-use crate::words::too_small;
 use crate::words::word_at;
 use crate::words::word_or;
+use counts::header_bytes;
+use counts::mark_of;
 use matrixwalk::Found;
+use verdict::Reason;
 use verdict::Verdict;
+use verdict::refuse;
 
 // Where the coefficients have got to: the place of the next one, and its pair.
 pub(crate) struct Next {
@@ -23,15 +24,16 @@ pub(crate) struct Next {
 }
 
 fn fill_diagonal(bytes: &[u8], found: Found, words: &mut [u64], marks: &mut [u8])
-    requires { ⌜ Whole (now bytes) found × Room (meaningOf (now bytes)) (now words) (now marks) ⌝ }
-    ensures { λ _. ⌜ Grid (meaningOf (now (bytes .entry))) (diagonal (found .fields .n)) (now (words .entry)) (now (marks .entry)) (now (words .exit)) (now (marks .exit)) ⌝ }
+    requires { ⌜ Whole (now bytes) found × Room (meaningFound (now bytes) found) (now words) (now marks) ⌝ }
+    ensures { λ _. ⌜ Grid (meaningFound (now (bytes .entry)) found) (diagonal (found .fields .n)) (now (words .entry)) (now (marks .entry)) (now (words .exit)) (now (marks .exit)) ⌝ }
 {
-    let n = found.fields.n;
-    let length = found.fields.slen;
+    let f = found.fields;
+    let n = f.n;
+    let length = f.slen;
     let mark = mark_of(length);
     let mut place = found.words;
     let mut i = 0;
-    while i < n {
+    while i < f.n {
         let cell = i * n + i;
         words[cell] = word_at(bytes, place, length);
         marks[cell] = mark;
@@ -62,17 +64,18 @@ fn fill_sparse_row(
     marks: &mut [u8],
 ) -> Next
     requires { ⌜ RowFrom (now bytes) found none row next (now words) (now marks) ⌝ }
-    ensures { λ r. ⌜ At (meaningOf (now (bytes .entry))) found (row + 1) (row + 2) r ⌝ }
-    ensures { λ _. ⌜ Grid (meaningOf (now (bytes .entry))) (ofRow row (found .fields .n)) (now (words .entry)) (now (marks .entry)) (now (words .exit)) (now (marks .exit)) ⌝ }
+    ensures { λ r. ⌜ At (meaningFound (now (bytes .entry)) found) found (row + 1) (row + 2) r ⌝ }
+    ensures { λ _. ⌜ Grid (meaningFound (now (bytes .entry)) found) (ofRow row (found .fields .n)) (now (words .entry)) (now (marks .entry)) (now (words .exit)) (now (marks .exit)) ⌝ }
 {
     let f = found.fields;
     let n = f.n;
     let length = f.clen;
+    let start = header_bytes(f);
     let mut place = next.place;
     let mut pair = next.pair;
     let mut column = row + 1;
     while column < n {
-        let mark = mark_at(bytes, f, pair);
+        let mark = mark_at(bytes, f, start, pair);
         let word = word_or(bytes, place, length, mark, none);
         put_pair(words, marks, row * n + column, column * n + row, word, mark);
         place += mark as usize * length;
@@ -93,15 +96,16 @@ fn fill_full_row(
     marks: &mut [u8],
 ) -> Next
     requires { ⌜ FullRowFrom (now bytes) found length row next (now words) (now marks) ⌝ }
-    ensures { λ r. ⌜ At (meaningOf (now (bytes .entry))) found (row + 1) (row + 2) r ⌝ }
-    ensures { λ _. ⌜ Grid (meaningOf (now (bytes .entry))) (ofRow row (found .fields .n)) (now (words .entry)) (now (marks .entry)) (now (words .exit)) (now (marks .exit)) ⌝ }
+    ensures { λ r. ⌜ At (meaningFound (now (bytes .entry)) found) found (row + 1) (row + 2) r ⌝ }
+    ensures { λ _. ⌜ Grid (meaningFound (now (bytes .entry)) found) (ofRow row (found .fields .n)) (now (words .entry)) (now (marks .entry)) (now (words .exit)) (now (marks .exit)) ⌝ }
 {
-    let n = found.fields.n;
+    let f = found.fields;
+    let n = f.n;
     let mark = mark_of(length);
     let pair = next.pair + (n - row - 1);
     let mut place = next.place;
     let mut column = row + 1;
-    while column < n {
+    while column < f.n {
         let word = word_at(bytes, place, length);
         put_pair(words, marks, row * n + column, column * n + row, word, mark);
         place += length;
@@ -121,8 +125,8 @@ fn fill_by_length(
     marks: &mut [u8],
 ) -> Next
     requires { ⌜ FullRowFrom (now bytes) found length row next (now words) (now marks) ⌝ }
-    ensures { λ r. ⌜ At (meaningOf (now (bytes .entry))) found (row + 1) (row + 2) r ⌝ }
-    ensures { λ _. ⌜ Grid (meaningOf (now (bytes .entry))) (ofRow row (found .fields .n)) (now (words .entry)) (now (marks .entry)) (now (words .exit)) (now (marks .exit)) ⌝ }
+    ensures { λ r. ⌜ At (meaningFound (now (bytes .entry)) found) found (row + 1) (row + 2) r ⌝ }
+    ensures { λ _. ⌜ Grid (meaningFound (now (bytes .entry)) found) (ofRow row (found .fields .n)) (now (words .entry)) (now (marks .entry)) (now (words .exit)) (now (marks .exit)) ⌝ }
 {
     match length {
         2 => fill_full_row(bytes, found, 2, row, next, words, marks),
@@ -142,8 +146,8 @@ fn fill_next_row(
     marks: &mut [u8],
 ) -> Next
     requires { ⌜ RowFrom (now bytes) found none row next (now words) (now marks) ⌝ }
-    ensures { λ r. ⌜ At (meaningOf (now (bytes .entry))) found (row + 1) (row + 2) r ⌝ }
-    ensures { λ _. ⌜ Grid (meaningOf (now (bytes .entry))) (ofRow row (found .fields .n)) (now (words .entry)) (now (marks .entry)) (now (words .exit)) (now (marks .exit)) ⌝ }
+    ensures { λ r. ⌜ At (meaningFound (now (bytes .entry)) found) found (row + 1) (row + 2) r ⌝ }
+    ensures { λ _. ⌜ Grid (meaningFound (now (bytes .entry)) found) (ofRow row (found .fields .n)) (now (words .entry)) (now (marks .entry)) (now (words .exit)) (now (marks .exit)) ⌝ }
 {
     if found.fields.cs {
         return fill_sparse_row(bytes, found, none, row, next, words, marks);
@@ -153,8 +157,8 @@ fn fill_next_row(
 
 // The pairs of all rows.
 fn fill_pairs(bytes: &[u8], found: Found, words: &mut [u64], marks: &mut [u8])
-    requires { ⌜ Whole (now bytes) found × Room (meaningOf (now bytes)) (now words) (now marks) ⌝ }
-    ensures { λ _. ⌜ Grid (meaningOf (now (bytes .entry))) (ofRows (found .fields .n)) (now (words .entry)) (now (marks .entry)) (now (words .exit)) (now (marks .exit)) ⌝ }
+    requires { ⌜ Whole (now bytes) found × Room (meaningFound (now bytes) found) (now words) (now marks) ⌝ }
+    ensures { λ _. ⌜ Grid (meaningFound (now (bytes .entry)) found) (ofRows (found .fields .n)) (now (words .entry)) (now (marks .entry)) (now (words .exit)) (now (marks .exit)) ⌝ }
 {
     let f = found.fields;
     let none = nought_of(f);
@@ -177,15 +181,15 @@ pub(crate) fn expand_found(
     marks: &mut [u8],
 ) -> Verdict
     requires { ⌜ Whole (now bytes) found ⌝ }
-    ensures { λ r. ⌜ ExpandedFor (Complete (found .length)) (meaningOf (now (bytes .entry))) (now (words .entry)) (now (marks .entry)) r (now (words .exit)) (now (marks .exit)) ⌝ }
+    ensures { λ r. ⌜ ExpandedFor (Complete (found .length)) (meaningFound (now (bytes .entry)) found) (now (words .entry)) (now (marks .entry)) r (now (words .exit)) (now (marks .exit)) ⌝ }
 {
     let n = found.fields.n;
     let cells = n * n;
     if words.len() < cells {
-        return too_small();
+        return refuse(Reason::SmallBuffer);
     }
     if marks.len() < cells {
-        return too_small();
+        return refuse(Reason::SmallBuffer);
     }
     fill_diagonal(bytes, found, words, marks);
     fill_pairs(bytes, found, words, marks);

@@ -9,15 +9,19 @@ ghost use Rattle.word.specs.Many.{wordsIn};
 ghost use Rattle.verdict.specs.declared.Reason.the-variants.{SmallBuffer};
 ghost use Rattle.verdict.specs.declared.Verdict.the-variants.{Complete, Refused};
 ghost use Rattle.matrix.specs.Meaning.{pairs, nought};
-ghost use Rattle.matrix.specs.Spelling.{vectorBytes, meaningOf};
+ghost use Rattle.matrix.specs.Header.{headerBytes, wordsFrom};
 ghost use Rattle.unpack.specs.Unpacking.{UnpackedFor};
 ghost use Rattle.verdict.specs.Lent.{over};
-ghost use Rattle.unpack.specs.Found.{Whole};
+ghost use Rattle.matrix.specs.Spelling.{meaningIn};
+ghost use Rattle.unpack.specs.Found.{meaningFound, Whole};
+use counts::header_bytes;
+use counts::mark_of;
+use counts::pairs_of;
 use matrix::Fields;
 use matrixwalk::Found;
 use verdict::Reason;
-use verdict::Refusal;
 use verdict::Verdict;
+use verdict::refuse;
 use word::bytes::Read;
 use word::bytes::read_at;
 use word::many::read_all;
@@ -61,28 +65,13 @@ pub(crate) fn nought_of(f: Fields) -> u64
     1 << (8 * f.clen - 2)
 }
 
-// How many pairs of variables there are.
-pub(crate) fn pairs_of(n: usize) -> usize
-    requires { ⌜ (1 ≤ n) × (n ≤ 64) ⌝ }
-    ensures { λ r. ⌜ r ≡ pairs n ⌝ }
-{
-    n * (n - 1) / 2
-}
-
-// The mark of values that are all sent: 0 if they have no bytes.
-pub(crate) fn mark_of(length: usize) -> u8
-    ensures { λ r. ⌜ r ≡ min 1 length ⌝ }
-{
-    if length == 0 { 0 } else { 1 }
-}
-
-// The mark of a pair: its bit of the vector, or whether coefficients have bytes.
-pub(crate) fn mark_at(bytes: &[u8], f: Fields, pair: usize) -> u8
-    requires { ⌜ (f ≡ meaningOf (now bytes) .fields) × ((pair < pairs (f .n)) × (3 + vectorBytes f ≤ count (now bytes))) ⌝ }
-    ensures { λ r. ⌜ r ≡ getD (meaningOf (now (bytes .entry)) .marks) pair 0 ⌝ }
+// The mark of a pair: its bit of the vector behind the header, or whether coefficients have bytes.
+pub(crate) fn mark_at(bytes: &[u8], f: Fields, start: usize, pair: usize) -> u8
+    requires { ⌜ (start ≡ headerBytes f) × ((pair < pairs (f .n)) × (wordsFrom f ≤ count (now bytes))) ⌝ }
+    ensures { λ r. ⌜ r ≡ getD (meaningIn f (now (bytes .entry)) .marks) pair 0 ⌝ }
 {
     if f.cs {
-        return (bytes[3 + pair / 8] >> (7 - pair % 8)) % 2;
+        return (bytes[start + pair / 8] >> (7 - pair % 8)) % 2;
     }
     mark_of(f.clen)
 }
@@ -110,7 +99,7 @@ fn fill_marks(marks: &mut [u8], number: usize, mark: u8)
 
 fn fill_deviations(bytes: &[u8], found: Found, deviations: &mut [u64])
     requires { ⌜ Whole (now bytes) found × (found .fields .n ≤ count (now deviations)) ⌝ }
-    ensures { λ _. ⌜ now (deviations .exit) ≡ over (meaningOf (now (bytes .entry)) .deviations) (now (deviations .entry)) ⌝ }
+    ensures { λ _. ⌜ now (deviations .exit) ≡ over (meaningFound (now (bytes .entry)) found .deviations) (now (deviations .entry)) ⌝ }
 {
     fill_words(
         bytes,
@@ -124,7 +113,7 @@ fn fill_deviations(bytes: &[u8], found: Found, deviations: &mut [u64])
 // The coefficients of a full matrix, which are all sent or have no bytes.
 fn fill_all(bytes: &[u8], found: Found, coefficients: &mut [u64], marks: &mut [u8])
     requires { ⌜ Whole (now bytes) found × ((pairs (found .fields .n) ≤ count (now coefficients)) × ((pairs (found .fields .n) ≤ count (now marks)) × (found .fields .cs ≡ false))) ⌝ }
-    ensures { λ _. ⌜ (now (coefficients .exit) ≡ over (meaningOf (now (bytes .entry)) .coefficients) (now (coefficients .entry))) × (now (marks .exit) ≡ over (meaningOf (now (bytes .entry)) .marks) (now (marks .entry))) ⌝ }
+    ensures { λ _. ⌜ (now (coefficients .exit) ≡ over (meaningFound (now (bytes .entry)) found .coefficients) (now (coefficients .entry))) × (now (marks .exit) ≡ over (meaningFound (now (bytes .entry)) found .marks) (now (marks .entry))) ⌝ }
 {
     let f = found.fields;
     let number = pairs_of(f.n);
@@ -141,16 +130,17 @@ fn fill_all(bytes: &[u8], found: Found, coefficients: &mut [u64], marks: &mut [u
 // The coefficients of a sparse matrix, by their bits.
 fn fill_sent(bytes: &[u8], found: Found, coefficients: &mut [u64], marks: &mut [u8])
     requires { ⌜ Whole (now bytes) found × ((pairs (found .fields .n) ≤ count (now coefficients)) × (pairs (found .fields .n) ≤ count (now marks))) ⌝ }
-    ensures { λ _. ⌜ (now (coefficients .exit) ≡ over (meaningOf (now (bytes .entry)) .coefficients) (now (coefficients .entry))) × (now (marks .exit) ≡ over (meaningOf (now (bytes .entry)) .marks) (now (marks .entry))) ⌝ }
+    ensures { λ _. ⌜ (now (coefficients .exit) ≡ over (meaningFound (now (bytes .entry)) found .coefficients) (now (coefficients .entry))) × (now (marks .exit) ≡ over (meaningFound (now (bytes .entry)) found .marks) (now (marks .entry))) ⌝ }
 {
     let f = found.fields;
     let count = pairs_of(f.n);
     let none = nought_of(f);
     let length = f.clen;
+    let start = header_bytes(f);
     let mut place = found.words + f.n * f.slen;
     let mut pair = 0;
     while pair < count {
-        let mark = mark_at(bytes, f, pair);
+        let mark = mark_at(bytes, f, start, pair);
         marks[pair] = mark;
         coefficients[pair] = word_or(bytes, place, length, mark, none);
         place += mark as usize * length;
@@ -160,22 +150,13 @@ fn fill_sent(bytes: &[u8], found: Found, coefficients: &mut [u64], marks: &mut [
 
 fn fill_coefficients(bytes: &[u8], found: Found, coefficients: &mut [u64], marks: &mut [u8])
     requires { ⌜ Whole (now bytes) found × ((pairs (found .fields .n) ≤ count (now coefficients)) × (pairs (found .fields .n) ≤ count (now marks))) ⌝ }
-    ensures { λ _. ⌜ (now (coefficients .exit) ≡ over (meaningOf (now (bytes .entry)) .coefficients) (now (coefficients .entry))) × (now (marks .exit) ≡ over (meaningOf (now (bytes .entry)) .marks) (now (marks .entry))) ⌝ }
+    ensures { λ _. ⌜ (now (coefficients .exit) ≡ over (meaningFound (now (bytes .entry)) found .coefficients) (now (coefficients .entry))) × (now (marks .exit) ≡ over (meaningFound (now (bytes .entry)) found .marks) (now (marks .entry))) ⌝ }
 {
     if found.fields.cs {
         fill_sent(bytes, found, coefficients, marks);
     } else {
         fill_all(bytes, found, coefficients, marks);
     }
-}
-
-pub(crate) fn too_small() -> Verdict
-    ensures { λ r. ⌜ r ≡ Refused (record { reason = SmallBuffer; place = 0 }) ⌝ }
-{
-    Verdict::Refused(Refusal {
-        reason: Reason::SmallBuffer,
-        place: 0,
-    })
 }
 
 // Unpacks a whole pack, where there is room.
@@ -187,18 +168,18 @@ pub(crate) fn unpack_found(
     marks: &mut [u8],
 ) -> Verdict
     requires { ⌜ Whole (now bytes) found ⌝ }
-    ensures { λ r. ⌜ UnpackedFor (Complete (found .length)) (meaningOf (now (bytes .entry))) (now (deviations .entry)) (now (coefficients .entry)) (now (marks .entry)) r (now (deviations .exit)) (now (coefficients .exit)) (now (marks .exit)) ⌝ }
+    ensures { λ r. ⌜ UnpackedFor (Complete (found .length)) (meaningFound (now (bytes .entry)) found) (now (deviations .entry)) (now (coefficients .entry)) (now (marks .entry)) r (now (deviations .exit)) (now (coefficients .exit)) (now (marks .exit)) ⌝ }
 {
     let n = found.fields.n;
     let count = pairs_of(n);
     if deviations.len() < n {
-        return too_small();
+        return refuse(Reason::SmallBuffer);
     }
     if coefficients.len() < count {
-        return too_small();
+        return refuse(Reason::SmallBuffer);
     }
     if marks.len() < count {
-        return too_small();
+        return refuse(Reason::SmallBuffer);
     }
     fill_deviations(bytes, found, deviations);
     fill_coefficients(bytes, found, coefficients, marks);

@@ -1,12 +1,17 @@
--- Values put over the first entries of a lent list, one after the other. Assumes nothing.
+-- Lent lists: values put over their first entries one after the other, and that they stay where a call is not complete. Assumes nothing.
 use Prim.Native.Nat.{ℕ, suc, _+_, _≤_, _<_}
-use mathlib.Core.Path.{_≡_, _∙_, ap}
+use mathlib.Core.Path.{_≡_, refl, _∙_, ap}
+use mathlib.Core.Bool.{Bool, true}
 use mathlib.Core.List.{List}
 use native.Mathlib.Numerals.{add-one}
 use native.Mathlib.Omega.{arith}
 use lib.ListN.{length, take, drop, getD, set, length-append, length-take, length-drop}
 use lib.Seq.{take-suc, drop-cons, set-at, append-snoc, length-take-le, take-all}
-use Rattle.verdict.specs.Lent.{over, overFirst}
+use Rattle.verdict.specs.declared.Reason.the-variants.{SmallBuffer}
+use Rattle.verdict.specs.declared.Refusal.{Refusal}
+use Rattle.verdict.specs.declared.Verdict.the-variants.{Complete, Unfinished, Refused}
+use Rattle.verdict.specs.Writing.{refusing}
+use Rattle.verdict.specs.Lent.{over, overFirst, saidFor, leftFor}
 
 over-more : (values out : List ℕ) (i : ℕ) → i < length values → i < length out → set (overFirst i values out) i (getD values i 0) ≡ overFirst (i + 1) values out
 over-more values out i h k =
@@ -29,3 +34,17 @@ module _ (values out₀ out : List ℕ) (i : ℕ) (is : out ≡ overFirst i valu
 -- the same values over the same list
 pub over-same : (values others out left : List ℕ) → left ≡ over others out → values ≡ others → left ≡ over values out
 over-same values others out left e same = rw same e
+
+-- ---- a call that is not complete changes nothing
+
+module _ (values out : List ℕ) where
+  -- a verdict other than complete is answered whatever room there is
+  pub unfinished-kept : (missing : ℕ) (short : Bool) → (saidFor (Unfinished missing) short ≡ Unfinished missing) × (leftFor (saidFor (Unfinished missing) short) values out ≡ out)
+  unfinished-kept missing short = (refl, refl)
+
+  pub refused-kept : (refusal : Refusal) (short : Bool) → (saidFor (Refused refusal) short ≡ Refused refusal) × (leftFor (saidFor (Refused refusal) short) values out ≡ out)
+  refused-kept refusal short = (refl, refl)
+
+  -- then 13
+  pub short-kept : (n : ℕ) → (saidFor (Complete n) true ≡ refusing SmallBuffer) × (leftFor (saidFor (Complete n) true) values out ≡ out)
+  short-kept n = (refl, refl)

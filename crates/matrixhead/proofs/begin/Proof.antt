@@ -2,7 +2,7 @@
 use mathlib.Core.Path.{subst}
 use denote.Ref.{now}
 use Rattle.matrix.specs.Machine.{verdictOf}
-use Rattle.matrixhead.specs.Beginning.{HeadFrom}
+use Rattle.matrixhead.specs.Parts.{HeadFrom}
 use Rattle.matrixhead.proofs.Beginning.{head-unfinished, head-refused, begun-one}
 use borrow.Author.Needs.{needs}
 use Rattle.matrixhead.proofs.begin.Statement.{statement}

@@ -1,6 +1,6 @@
 -- `matrixwalk::chosen` meets its contract. Assumes nothing.
 use mathlib.Core.Path.{sym, ap}
-use Rattle.matrixwalk.specs.Walk.{ruleIn}
+use Rattle.matrixwalk.specs.Parts.{ruleIn}
 use borrow.Author.Needs.{needs}
 use Rattle.matrixwalk.proofs.chosen.Statement.{statement}
 use Rattle.matrixwalk.proofs.chosen.Tie as tie

@@ -5,7 +5,7 @@ use denote.Ref.{now}
 use Rattle.rule.specs.Rules.{Sound, coefficientRule}
 use Rattle.rule.specs.declared.rules.Rule.{Rule}
 use Rattle.rule.proofs.Certain.{coefficient-sound, coefficient-length}
-use Rattle.matrixwalk.specs.Walk.{ruleIn, PassedFrom}
+use Rattle.matrixwalk.specs.Parts.{ruleIn, PassedFrom}
 use Rattle.matrixwalk.proofs.Walking.{chosen-coefficients, coefficients-passed, coefficients-end}
 use borrow.Author.Needs.{needs}
 use Rattle.matrixwalk.proofs.from_coefficients.Statement.{statement}

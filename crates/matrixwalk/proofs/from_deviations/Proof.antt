@@ -6,7 +6,7 @@ use denote.Ref.{now}
 use Rattle.rule.specs.Rules.{Sound, deviationRule}
 use Rattle.rule.specs.declared.rules.Rule.{Rule}
 use Rattle.rule.proofs.Certain.{deviation-sound, deviation-length}
-use Rattle.matrixwalk.specs.Walk.{ruleIn, PassedFrom}
+use Rattle.matrixwalk.specs.Parts.{ruleIn, PassedFrom}
 use Rattle.matrixwalk.proofs.Walking.{chosen-deviations, deviations-passed, deviations-end}
 use Rattle.matrix.proofs.Counts.{coefficients-most}
 use borrow.Author.Needs.{needs}

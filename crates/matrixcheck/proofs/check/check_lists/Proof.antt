@@ -6,12 +6,17 @@ use denote.Ref.{now}
 use lib.ListN.{take}
 use Rattle.matrix.specs.Meaning.{pairs}
 use Rattle.matrix.proofs.Pairs.{pairs-most}
+use Rattle.counts.proofs.Counts.{pairs-counted}
 use Rattle.matrixcheck.specs.Checking.{markedOf, Enough}
 use Rattle.matrixcheck.proofs.Fitting.{fit-marked, unfit-marked}
 use Rattle.matrixcheck.proofs.Checking.{few-deviations, few-coefficients, few-marks, marks-broken, lists-on}
 use borrow.Author.Needs.{needs}
 use Rattle.matrixcheck.proofs.check.check_lists.Statement.{statement}
 use Rattle.matrixcheck.proofs.check.check_lists.Tie as tie
+
+-- the pairs of variables
+counted : (c : tie.After-pairs-of) → c .pairs-of .result ≡ pairs (c .before .before .before .before .args .f .n)
+counted c = let s = c .before .before .before .before in pairs-counted (s .args .f .n) (c .pairs-of .result) (s .pre .first .size-most) (c .pairs-of .ensures)
 
 pairs-of-requires : tie.Need-pairs-of-requires
 pairs-of-requires c κs = search needs
@@ -38,14 +43,14 @@ returns-2 c =
     let t = c .before in
     let p = t .before .before .before in
     let a = p .before .before .before .before .args in
-    c .refuse2 .ensures ∙ few-coefficients (a .f) (now (a .deviations)) (now (a .coefficients)) (now (a .marks)) (t .before .if1 .left) (omega (arith, t .if2 .taken, p .pairs-of .ensures))
+    c .refuse2 .ensures ∙ few-coefficients (a .f) (now (a .deviations)) (now (a .coefficients)) (now (a .marks)) (t .before .if1 .left) (omega (arith, t .if2 .taken, counted p))
 
 returns-3 : tie.Need-returns-3
 returns-3 c =
     let t = c .before in
     let p = t .before .before .before .before in
     let a = p .before .before .before .before .args in
-    c .refuse3 .ensures ∙ few-marks (a .f) (now (a .deviations)) (now (a .coefficients)) (now (a .marks)) (t .before .before .if1 .left) (omega (arith, t .before .if2 .left, p .pairs-of .ensures)) (omega (arith, t .if3 .taken, p .pairs-of .ensures))
+    c .refuse3 .ensures ∙ few-marks (a .f) (now (a .deviations)) (now (a .coefficients)) (now (a .marks)) (t .before .before .if1 .left) (omega (arith, t .before .if2 .left, counted p)) (omega (arith, t .if3 .taken, counted p))
 
 abbrev start : tie.Else3 → tie.Start
 start c = c .before .before .before .before .before .before .before .before
@@ -53,17 +58,17 @@ start c = c .before .before .before .before .before .before .before .before
 -- the lists have enough entries
 enough : (c : tie.Else3) → let a = start c .args in Enough (a .f) (now (a .deviations)) (now (a .coefficients)) (now (a .marks))
 enough c =
-    let p = c .before .before .before .before .pairs-of .ensures in
+    let p = counted (c .before .before .before .before) in
     record { deviations-enough = c .before .before .if1 .left; coefficients-enough = omega (arith, c .before .if2 .left, p); marks-enough = omega (arith, c .if3 .left, p) }
 
 -- the marks were counted
 marked : (c : tie.After-marks-of) → let a = start (c .before) .args in c .marks-of .result ≡ markedOf (a .f) (take (pairs (a .f .n)) (now (a .marks)))
-marked c = let a = start (c .before) .args in c .marks-of .ensures ∙ ap (λ (k : ℕ). markedOf (a .f) (take k (now (a .marks)))) (c .before .before .before .before .before .pairs-of .ensures)
+marked c = let a = start (c .before) .args in c .marks-of .ensures ∙ ap (λ (k : ℕ). markedOf (a .f) (take k (now (a .marks)))) (counted (c .before .before .before .before .before))
 
 marks-of-requires : tie.Need-marks-of-requires
 marks-of-requires c κs =
     let s = start c in
-    let p = c .before .before .before .before .pairs-of .ensures in
+    let p = counted (c .before .before .before .before) in
     (omega (arith, c .if3 .left), omega (arith, p, pairs-most (s .args .f .n) (s .pre .first .size-most)))
 
 enum-known-marked : tie.Need-enum-known-marked

@@ -6,7 +6,7 @@ use native.Mathlib.Omega.{arith}
 use denote.Ref.{now}
 use lib.ListN.{length, take}
 use Rattle.matrix.specs.Meaning.{sum}
-use Rattle.unpack.proofs.Sums.{sum-more}
+use Rattle.matrix.proofs.Sums.{sum-more}
 use borrow.Author.Needs.{needs}
 use Rattle.matrixcheck.proofs.check.sum_of.Statement.{statement}
 use Rattle.matrixcheck.proofs.check.sum_of.Tie as tie

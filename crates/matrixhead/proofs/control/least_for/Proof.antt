@@ -1,8 +1,11 @@
 -- `matrixhead::control::least_for` meets its contract. Assumes nothing.
+use mathlib.Core.Path.{_≡_}
 use native.Mathlib.Omega.{arith}
 use borrow.Author.Needs.{needs}
 use borrow.Author.Tests.{eq-eqb, ne-eqb}
+use Rattle.matrix.specs.Meaning.{pairs}
 use Rattle.matrix.proofs.Pairs.{pairs-most}
+use Rattle.counts.proofs.Counts.{pairs-counted}
 use Rattle.matrixhead.proofs.control.least_for.Statement.{statement}
 use Rattle.matrixhead.proofs.control.least_for.Tie as tie
 
@@ -12,8 +15,12 @@ returns c = simp (eq-eqb _ _ (c .if1 .taken))
 pairs-of-requires : tie.Need-pairs-of-requires
 pairs-of-requires c κs = search needs
 
+-- the pairs of variables
+counted : (c : tie.After-pairs-of) → c .pairs-of .result ≡ pairs (c .before .before .args .n)
+counted c = pairs-counted (c .before .before .args .n) (c .pairs-of .result) (c .before .before .pre .1) (c .pairs-of .ensures)
+
 add-lesser : tie.Need-add-lesser
-add-lesser c = omega (arith, pairs-most (c .before .before .args .n) (c .before .before .pre .1))
+add-lesser c = omega (arith, counted c, pairs-most (c .before .before .args .n) (c .before .before .pre .1))
 
 add-lesser-2 : tie.Need-add-lesser-2
 add-lesser-2 c = search needs
@@ -25,7 +32,7 @@ lesser-requires-2 : tie.Need-lesser-requires-2
 lesser-requires-2 c κs = search needs
 
 returns-2 : tie.Need-returns-2
-returns-2 c = simp (ne-eqb _ _ (c .before .before .before .if1 .left)) (omega arith)
+returns-2 c = simp (ne-eqb _ _ (c .before .before .before .if1 .left)) (omega (arith, counted (c .before .before)))
 
 pub least-for-spec : {M : Type 1} → statement M
 least-for-spec =

@@ -6,14 +6,19 @@ use borrow.Author.Needs.{needs}
 use borrow.Author.Tests.{eq-eqb, ne-eqb}
 use Rattle.matrix.specs.Machine.{leastValues}
 use Rattle.matrix.proofs.Counts.{least-values-most}
+use Rattle.counts.proofs.Counts.{pairs-counted, vector-counted}
 use Rattle.matrixhead.proofs.control.least_values.Statement.{statement}
 use Rattle.matrixhead.proofs.control.least_values.Tie as tie
 
 sparse : (c : tie.After-lesser) → c .before .vector-bytes .result + c .lesser .result ≡ leastValues (c .before .before .before .args .f)
-sparse c = simp (c .before .vector-bytes .ensures, c .lesser .ensures, c .before .before .if1 .taken)
+sparse c =
+    let s = c .before .before .before in
+    simp (vector-counted (s .args .f) (c .before .vector-bytes .result) (s .pre .size-most) (c .before .vector-bytes .ensures), c .lesser .ensures, c .before .before .if1 .taken)
 
 full : (c : tie.After-struct-known2) → let f = c .before .before .before .before .before .args .f in c .before .pairs-of .result * f .clen ≡ leastValues f
-full c = simp (c .before .pairs-of .ensures, c .before .before .before .before .if1 .left, ne-eqb _ _ (c .before .before .if2 .left))
+full c =
+    let s = c .before .before .before .before .before in
+    simp (pairs-counted (s .args .f .n) (c .before .pairs-of .result) (s .pre .size-most) (c .before .pairs-of .ensures), c .before .before .before .before .if1 .left, ne-eqb _ _ (c .before .before .if2 .left))
 
 vector-bytes-requires : tie.Need-vector-bytes-requires
 vector-bytes-requires c κs = search needs

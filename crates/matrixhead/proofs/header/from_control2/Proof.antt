@@ -4,6 +4,8 @@ use mathlib.Core.Path.{sym, ap, _∙_}
 use native.Mathlib.Omega.{arith}
 use borrow.Author.Needs.{needs}
 use denote.Ref.{now}
+use Rattle.matrix.specs.Header.{fieldsOf}
+use Rattle.matrix.proofs.Header.{header-two}
 use Rattle.verdict.specs.declared.Verdict.the-variants.{Unfinished}
 use Rattle.verdict.proofs.Reaching.{reach-cut}
 use Rattle.matrix.specs.Machine.{control2, step, least}
@@ -23,10 +25,10 @@ add-t10 c =
 returns : tie.Need-returns
 returns c =
     let s = c .before .before .before in
-    (reach-cut step least (now (s .args .bytes)) (control2 (s .args .f)) 2 (omega arith) ∙ ap (λ (n : ℕ). Unfinished (1 + n)) (sym (c .least-values .ensures)), omega arith)
+    (reach-cut step least (now (s .args .bytes)) (control2 (s .args .f)) 2 (omega arith) ∙ ap (λ (n : ℕ). Unfinished (1 + n)) (sym (c .least-values .ensures)), omega (arith, header-two (fieldsOf (now (s .args .bytes)))))
 
-byte-requires : tie.Need-byte-requires
-byte-requires c κs = search needs
+byte-at-requires : tie.Need-byte-at-requires
+byte-at-requires c κs = search needs
 
 second-of-requires : tie.Need-second-of-requires
 second-of-requires c κs = search needs
@@ -45,7 +47,7 @@ returns-2 c =
     let j = c .before .before in
     let g = j .before in
     let s = g .before .before .before .before in
-    control2-headed (now (s .args .bytes)) (s .args .f) (g .second-of .result) (g .before .byte .result) (omega arith) (g .before .byte .ensures .0) (g .second-of .ensures) (s .pre .1) (s .pre .2)
+    control2-headed (now (s .args .bytes)) (s .args .f) (g .second-of .result) (g .before .byte-at .result) (omega arith) (g .before .byte-at .ensures .0) (g .second-of .ensures) (s .pre .1) (s .pre .2)
     (sym (j .judge-control2 .ensures) ∙ c .enum-told .given .1)
 
 returns-3 : tie.Need-returns-3
@@ -53,9 +55,9 @@ returns-3 c =
     let j = c .before .before .before in
     let g = j .before in
     let s = g .before .before .before .before in (
-      control2-broken (now (s .args .bytes)) (s .args .f) (g .second-of .result) (g .before .byte .result) (omega arith) (g .before .byte .ensures .0) (g .second-of .ensures) (c .before .judged .given .0 .0)
+      control2-broken (now (s .args .bytes)) (s .args .f) (g .second-of .result) (g .before .byte-at .result) (omega arith) (g .before .byte-at .ensures .0) (g .second-of .ensures) (c .before .judged .given .0 .0)
           (sym (j .judge-control2 .ensures) ∙ c .before .judged .given .1),
-      omega arith,
+      omega (arith, header-two (fieldsOf (now (s .args .bytes)))),
     )
 
 pub from-control2-spec : {M : Type 1} → statement M
@@ -65,7 +67,7 @@ from-control2-spec =
     least-values-requires
     add-t10
     returns
-    byte-requires
+    byte-at-requires
     second-of-requires
     judge-control2-requires
     enum-told

@@ -7,7 +7,7 @@ use borrow.Author.Needs.{needs}
 use borrow.Author.Tests.{eq-eqb, ne-eqb}
 use lib.Pow.{pow-lt, pow-pos}
 use Rattle.matrix.specs.Meaning.{pairs}
-use Rattle.matrix.specs.Spelling.{vectorBytes}
+use Rattle.matrix.specs.Header.{vectorBytes}
 use Rattle.matrixhead.proofs.judge.judge_vector.Statement.{statement}
 use Rattle.matrixhead.proofs.judge.judge_vector.Tie as tie
 

@@ -7,7 +7,7 @@ use denote.Ref.{now}
 use lib.ListN.{take, drop}
 use lib.Seq.{drop-drop}
 use Rattle.matrix.specs.Meaning.{sum as sumOf}
-use Rattle.matrix.specs.Spelling.{bits}
+use Rattle.matrix.specs.Header.{bits}
 use Rattle.matrix.proofs.Ones.{ones-most, ones-both}
 use borrow.Author.Needs.{needs}
 use Rattle.matrixhead.proofs.vector.ones.Statement.{statement}

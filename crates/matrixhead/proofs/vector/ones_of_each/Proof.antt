@@ -7,7 +7,7 @@ use denote.Ref.{now}
 use lib.Count.{ones}
 use lib.ListN.{take, drop, getD}
 use Rattle.matrix.specs.Meaning.{sum as sumOf}
-use Rattle.matrix.specs.Spelling.{bits}
+use Rattle.matrix.specs.Header.{bits}
 use Rattle.matrix.proofs.Ones.{ones-most, ones-more}
 use Rattle.matrixhead.proofs.vector.ones_of_each.Statement.{statement}
 use Rattle.matrixhead.proofs.vector.ones_of_each.Tie as tie

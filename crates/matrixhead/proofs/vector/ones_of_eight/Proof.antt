@@ -8,7 +8,7 @@ use Rattle.word.specs.declared.bytes.Read.{Read}
 use Rattle.word.proofs.Whole.{wordIn, read-whole}
 use Rattle.word.proofs.Digits.{below-take, below-drop}
 use Rattle.matrix.specs.Meaning.{sum}
-use Rattle.matrix.specs.Spelling.{bits}
+use Rattle.matrix.specs.Header.{bits}
 use Rattle.matrix.proofs.Ones.{ones-most, ones-value}
 use borrow.Author.Needs.{needs}
 use Rattle.matrixhead.proofs.vector.ones_of_eight.Statement.{statement}

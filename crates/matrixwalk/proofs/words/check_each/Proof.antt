@@ -3,7 +3,7 @@ use Prim.Native.Nat.{_-_}
 use mathlib.Core.Path.{_≡_, refl, _∙_}
 use native.Mathlib.Omega.{arith}
 use borrow.Author.Needs.{needs}
-use Rattle.matrixwalk.specs.Walk.{Judges}
+use Rattle.matrixwalk.specs.Parts.{Judges}
 use Rattle.matrixwalk.proofs.Passing.{first-limit, checks-over, Carries, carries-start, carries-next, carries-all}
 use Rattle.matrixwalk.proofs.words.check_each.Statement.{statement}
 use Rattle.matrixwalk.proofs.words.check_each.Tie as tie

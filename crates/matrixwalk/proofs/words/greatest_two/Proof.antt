@@ -7,7 +7,7 @@ use lib.Bits.{bitAnd}
 use lib.ListN.{getD}
 use Rattle.rule.specs.declared.rules.Rule.{Rule}
 use Rattle.rule.specs.Rules.{Sound}
-use Rattle.matrixwalk.specs.Walk.{maskOf, Judges}
+use Rattle.matrixwalk.specs.Parts.{maskOf, Judges}
 use Rattle.matrixwalk.proofs.Passing.{two-limit, two-below, Carries, carries-start, carries-next, carries-all}
 use borrow.Author.Needs.{needs}
 use Rattle.matrixwalk.proofs.words.greatest_two.Statement.{statement}

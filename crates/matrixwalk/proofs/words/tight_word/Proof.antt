@@ -36,8 +36,8 @@ sub-limit-at-2 c = search needs
 limit-at-requires : tie.Need-limit-at-requires Inv-loop μ-loop
 limit-at-requires c κs = search needs
 
-byte-requires : tie.Need-byte-requires Inv-loop μ-loop
-byte-requires c κs = search needs
+byte-at-requires : tie.Need-byte-at-requires Inv-loop μ-loop
+byte-at-requires c κs = search needs
 
 returns : tie.Need-returns Inv-loop μ-loop
 returns c =
@@ -45,8 +45,8 @@ returns c =
     let l = b .before .before .before .loop in
     let s = b .before .before .before .before .before .before .before in
     let a = s .args in
-    tight-over (a .bytes .now) (a .at) (a .until) (a .rule) (s .pre .0) (l .i) (b .before .limit-at .result) (b .byte .result)
-    (omega arith) (l .inv .2) (b .before .limit-at .ensures) (b .byte .ensures .0) (c .if1 .taken)
+    tight-over (a .bytes .now) (a .at) (a .until) (a .rule) (s .pre .0) (l .i) (b .before .limit-at .result) (b .byte-at .result)
+    (omega arith) (l .inv .2) (b .before .limit-at .ensures) (b .byte-at .ensures .0) (c .if1 .taken)
 
 returns-2 : tie.Need-returns-2 Inv-loop μ-loop
 returns-2 c =
@@ -55,8 +55,8 @@ returns-2 c =
     let s = b .before .before .before .before .before .before .before in
     let k = b .before .before .before .before .before .before .shared-slice-known in
     let a = s .args in
-    tight-below (a .bytes .now) (a .at) (a .until) (a .rule) (s .pre .0) (l .i) (b .before .limit-at .result) (b .byte .result)
-    (omega arith) (l .inv .2) (b .before .limit-at .ensures) (b .byte .ensures .0) (λ i. k .given i .fits) (c .if2 .taken)
+    tight-below (a .bytes .now) (a .at) (a .until) (a .rule) (s .pre .0) (l .i) (b .before .limit-at .result) (b .byte-at .result)
+    (omega arith) (l .inv .2) (b .before .limit-at .ensures) (b .byte-at .ensures .0) (λ i. k .given i .fits) (c .if2 .taken)
 
 add-i-2 : tie.Need-add-i-2 Inv-loop μ-loop
 add-i-2 c = search needs
@@ -72,8 +72,8 @@ loop-again c =
     let a = s .args in (
       omega arith,
       omega arith,
-      tight-equal (a .bytes .now) (a .at) (a .until) (a .rule) (s .pre .0) (l .i) (b .before .limit-at .result) (b .byte .result)
-          (omega arith) (l .inv .2) (b .before .limit-at .ensures) (b .byte .ensures .0) (c .if2 .left) (c .before .if1 .left),
+      tight-equal (a .bytes .now) (a .at) (a .until) (a .rule) (s .pre .0) (l .i) (b .before .limit-at .result) (b .byte-at .result)
+          (omega arith) (l .inv .2) (b .before .limit-at .ensures) (b .byte-at .ensures .0) (c .if2 .left) (c .before .if1 .left),
     )
 
 returns-3 : tie.Need-returns-3 Inv-loop μ-loop
@@ -96,7 +96,7 @@ tight-word-spec =
     sub-limit-at
     sub-limit-at-2
     limit-at-requires
-    byte-requires
+    byte-at-requires
     returns
     returns-2
     add-i-2

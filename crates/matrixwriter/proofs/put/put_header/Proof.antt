@@ -1,10 +1,11 @@
 -- `matrixwriter::put::put_header` meets its contract: lawful fields fit in their bytes. Assumes nothing.
-use Prim.Native.Nat.{_<_}
+use Prim.Native.Nat.{_≤_, _<_}
 use native.Mathlib.Omega.{arith}
 use denote.Ref.{now}
-use lib.ListN.{length-set}
-use Rattle.matrix.specs.Spelling.{control1, control2}
+use lib.ListN.{length, length-set}
+use Rattle.matrix.specs.Header.{control1, control2}
 use Rattle.matrix.proofs.ControlBytes.{control1-byte, control2-byte}
+use Rattle.matrix.proofs.Header.{header-two}
 use Rattle.matrixwriter.proofs.Putting.{header-put}
 use borrow.Author.Needs.{needs}
 use Rattle.matrixwriter.proofs.put.put_header.Statement.{statement}
@@ -16,6 +17,9 @@ byte1 s = control1-byte (s .args .f) (s .pre .0 .first)
 
 byte2 : (s : tie.Start) → control2 (s .args .f) < 256
 byte2 s = control2-byte (s .args .f) (s .pre .0)
+
+room : (s : tie.Start) → 3 ≤ length (now (s .args .out))
+room s = omega (arith, s .pre .1, header-two (s .args .f))
 
 bit-of-requires : tie.Need-bit-of-requires
 bit-of-requires c κs = search needs
@@ -51,19 +55,19 @@ cast-out : tie.Need-cast-out
 cast-out c = search needs
 
 slice-write-out : tie.Need-slice-write-out
-slice-write-out c = search needs
+slice-write-out c = let s = c .before .before .before .before .before .before .before in omega (arith, room s)
 
 cast-out-2 : tie.Need-cast-out-2
 cast-out-2 c = omega (arith, byte1 (c .before .before .before .before .before .before .before))
 
 slice-write-out-2 : tie.Need-slice-write-out-2
-slice-write-out-2 c = rw length-set (omega (arith, c .before .before .before .before .before .before .before .pre .1))
+slice-write-out-2 c = rw length-set (omega (arith, room (c .before .before .before .before .before .before .before)))
 
 cast-out-3 : tie.Need-cast-out-3
 cast-out-3 c = omega (arith, byte2 (c .before .before .before .before .before .before .before))
 
 slice-write-out-3 : tie.Need-slice-write-out-3
-slice-write-out-3 c = search needs
+slice-write-out-3 c = rw (length-set, length-set) (omega (arith, room (c .before .before .before .before .before .before .before)))
 
 same-length : tie.Need-same-length
 same-length c = search needs

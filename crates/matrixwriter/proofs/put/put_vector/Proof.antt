@@ -13,10 +13,10 @@ use Rattle.matrixwriter.proofs.put.put_vector.Statement.{statement}
 use Rattle.matrixwriter.proofs.put.put_vector.Tie as tie
 
 abbrev Inv-loop : tie.InvT-loop
-Inv-loop out₀ marks pairs bytes i₀ out i = (i ≤ bytes) × (out ≡ put out₀ 3 (packed i (take pairs marks)))
+Inv-loop out₀ place marks pairs bytes i₀ out i = (i ≤ bytes) × (out ≡ put out₀ place (packed i (take pairs marks)))
 
 abbrev μ-loop : tie.MeasureT-loop
-μ-loop out₀ marks pairs bytes i₀ out i = bytes - i
+μ-loop out₀ place marks pairs bytes i₀ out i = bytes - i
 
 abbrev start : tie.At-loop Inv-loop μ-loop → tie.Start Inv-loop μ-loop
 start l = l .before .before .before
@@ -24,11 +24,11 @@ start l = l .before .before .before
 kept : (l : tie.At-loop Inv-loop μ-loop) → count (l .loop .out) ≡ count (now (start l .args .out))
 kept l =
     let a = start l .args in
-    vector-put-length (now (a .out)) 3 (take (a .pairs) (now (a .marks))) (l .loop .i) (l .loop .out) (omega (arith, l .loop .inv .0, start l .pre .1 .1 .0)) (l .loop .inv .1)
+    vector-put-length (now (a .out)) (a .place) (take (a .pairs) (now (a .marks))) (l .loop .i) (l .loop .out) (omega (arith, l .loop .inv .0, start l .pre .1 .1 .0)) (l .loop .inv .1)
 
 loop-holds : tie.Need-loop-holds Inv-loop μ-loop
 unfolding packed
-loop-holds c = (omega arith, sym (put-none (now (c .before .before .args .out)) 3))
+loop-holds c = (omega arith, sym (put-none (now (c .before .before .args .out)) (c .before .before .args .place)))
 
 mul-vector-byte : tie.Need-mul-vector-byte Inv-loop μ-loop
 mul-vector-byte c = omega (arith, c .loop-test .taken, start (c .before) .pre .1 .0)
@@ -37,7 +37,7 @@ vector-byte-requires : tie.Need-vector-byte-requires Inv-loop μ-loop
 vector-byte-requires c κs = let s = start (c .before) in (s .pre .0, (omega (arith, c .loop-test .taken, s .pre .1 .0), s .pre .1 .1 .1))
 
 add-out : tie.Need-add-out Inv-loop μ-loop
-add-out c = omega (arith, c .before .loop-test .taken, start (c .before .before) .pre .1 .0)
+add-out c = let l = c .before .before in omega (arith, kept l, c .before .loop-test .taken, start l .pre .1 .1 .0)
 
 slice-write-out : tie.Need-slice-write-out Inv-loop μ-loop
 slice-write-out c = let l = c .before .before in omega (arith, kept l, c .before .loop-test .taken, start l .pre .1 .1 .0)
@@ -53,7 +53,7 @@ loop-again c =
     let l = c .before .before in
     let a = start l .args in (
       omega arith,
-      vector-put-next (now (a .out)) 3 (take (a .pairs) (now (a .marks))) (l .loop .i) (c .vector-byte .result) (l .loop .out) (omega (arith, c .before .loop-test .taken, start l .pre .1 .1 .0)) (c .vector-byte .ensures) (l .loop .inv .1),
+      vector-put-next (now (a .out)) (a .place) (take (a .pairs) (now (a .marks))) (l .loop .i) (c .vector-byte .result) (l .loop .out) (omega (arith, c .before .loop-test .taken, start l .pre .1 .1 .0)) (c .vector-byte .ensures) (l .loop .inv .1),
     )
 
 same-length : tie.Need-same-length Inv-loop μ-loop

@@ -32,8 +32,11 @@ length-of-requires c κs =
     let a = s .args in
     (s .pre .lawful .fields, omega (arith, s .pre .counted, sent-most (a .f) (now (a .deviations)) (now (a .coefficients)) (now (a .marks)) (s .pre .enough) (s .pre .lawful)))
 
+refuse-requires : tie.Need-refuse-requires
+refuse-requires c κs = search needs
+
 returns : tie.Need-returns
-returns c = let l = c .before in room-missing (bytes (start l)) (now (start l .args .out)) 0 (count (now (start l .args .out))) (omega (arith, counted l, c .if1 .taken))
+returns c = let l = c .before .before in rw (c .refuse .ensures) (room-missing (bytes (start l)) (now (start l .args .out)) 0 (count (now (start l .args .out))) (omega (arith, counted l, c .before .if1 .taken)))
 
 put-given-requires : tie.Need-put-given-requires
 put-given-requires c κs = let l = c .before .before in let s = start l in (s .pre .enough, (s .pre .lawful, omega (arith, counted l, c .before .if1 .left)))
@@ -49,4 +52,4 @@ returns-2 c =
     room-enough (bytes (start l)) (now (start l .args .out)) 0 (count (now (start l .args .out))) (l .length-of .result) (g .put-given .last .1 .1 .1 .1 .0) (omega (arith, counted l, e .if1 .left)) (counted l) (g .put-given .ensures)
 
 pub write-given-spec : {M : Type 1} → statement M
-write-given-spec = tie.close (tie.spec length-of-requires returns put-given-requires same-length returns-2)
+write-given-spec = tie.close (tie.spec length-of-requires refuse-requires returns put-given-requires same-length returns-2)

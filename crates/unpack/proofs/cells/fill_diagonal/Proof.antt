@@ -1,30 +1,31 @@
 -- `unpack::cells::fill_diagonal` meets its contract. The loop's invariant: the first `i` cells of the diagonal are filled in. Assumes nothing.
 use Prim.Native.Nat.{ℕ, _+_, _-_, _*_, _≤_, _<_, min}
-use mathlib.Core.Path.{_≡_, _∙_, ap, subst}
+use mathlib.Core.Path.{_≡_, _∙_, ap, subst, refl}
 use mathlib.Core.List.{List}
 use native.Mathlib.Omega.{arith}
 use denote.Ref.{now}
 use lib.ListN.{length as count}
 use Rattle.matrix.specs.declared.Fields.{Fields}
-use Rattle.matrix.specs.Spelling.{meaningOf}
+use Rattle.matrix.specs.Spelling.{meaningIn}
+use Rattle.unpack.specs.Found.{meaningFound}
 use Rattle.unpack.specs.Cells.{Grid, diagonal}
 use Rattle.unpack.proofs.Filling.{Small, small, deviation-within, deviation-is}
-use Rattle.unpack.proofs.Squares.{cell-small}
+use Rattle.matrix.proofs.Squares.{cell-small}
 use Rattle.unpack.proofs.Rows.{cell-within, diagonal-none, grid-diagonal}
 use borrow.Author.Needs.{needs}
 use Rattle.unpack.proofs.cells.fill_diagonal.Statement.{statement}
 use Rattle.unpack.proofs.cells.fill_diagonal.Tie as tie
 
 abbrev Inv-loop : tie.InvT-loop
-Inv-loop bytes words₀ marks₀ n length mark place₀ i₀ words marks place i =
-    (i ≤ n) × ((place ≡ place₀ + i * length) × Grid (meaningOf bytes) (diagonal i) words₀ marks₀ words marks)
+Inv-loop bytes words₀ marks₀ f n length mark place₀ i₀ words marks place i =
+    (i ≤ f .n) × ((place ≡ place₀ + i * length) × Grid (meaningIn f bytes) (diagonal i) words₀ marks₀ words marks)
 
 abbrev μ-loop : tie.MeasureT-loop
-μ-loop bytes words₀ marks₀ n length mark place₀ i₀ words marks place i = n - i
+μ-loop bytes words₀ marks₀ f n length mark place₀ i₀ words marks place i = f .n - i
 
-module _ (c : tie.In-loop Inv-loop μ-loop) where
+module _ (c : tie.Then1 Inv-loop μ-loop) where
   abbrev s : tie.Start Inv-loop μ-loop
-  s = c .before .before .before .before .before .before
+  s = c .before .before .before .before .before .before .before .before
 
   abbrev bytes : List ℕ
   bytes = now (s .args .bytes)
@@ -33,29 +34,26 @@ module _ (c : tie.In-loop Inv-loop μ-loop) where
   n = s .args .found .fields .n
 
   abbrev i : ℕ
-  i = c .before .loop .i
+  i = c .before .before .loop .i
 
   bounds : Small (s .args .found .fields)
   bounds = small bytes (s .args .found) (s .pre .0)
 
-  same : n ≡ meaningOf bytes .fields .n
-  same = ap (λ (f : Fields). f .n) (s .pre .0 .fields)
-
   -- the word of the next deviation is there
-  within : c .before .loop .place + s .args .found .fields .slen ≤ count bytes
-  within = omega (arith, deviation-within bytes (s .args .found) (s .pre .0) i (c .loop-test .taken), c .before .loop .inv .1 .0)
+  within : c .before .before .loop .place + s .args .found .fields .slen ≤ count bytes
+  within = omega (arith, deviation-within bytes (s .args .found) (s .pre .0) i (c .if1 .taken), c .before .before .loop .inv .1 .0)
 
   cell-few : i * n + i < 4096
-  cell-few = cell-small n i i (bounds .size-most) (c .loop-test .taken) (c .loop-test .taken)
+  cell-few = cell-small n i i (bounds .size-most) (c .if1 .taken) (c .if1 .taken)
 
-  cell-there : (i * n + i < count (c .before .loop .words)) × (i * n + i < count (c .before .loop .marks))
-  cell-there = cell-within (meaningOf bytes) n same (s .pre .1) (c .before .loop .inv .1 .1) i i (c .loop-test .taken) (c .loop-test .taken)
+  cell-there : (i * n + i < count (c .before .before .loop .words)) × (i * n + i < count (c .before .before .loop .marks))
+  cell-there = cell-within (meaningFound bytes (s .args .found)) n refl (s .pre .1) (c .before .before .loop .inv .1 .1) i i (c .if1 .taken) (c .if1 .taken)
 
 mark-of-requires : tie.Need-mark-of-requires Inv-loop μ-loop
 mark-of-requires c κs = search needs
 
 loop-holds : tie.Need-loop-holds Inv-loop μ-loop
-loop-holds c = let s = c .before .before .before .before in (omega arith, (omega arith, diagonal-none (meaningOf (now (s .args .bytes))) (now (s .args .words)) (now (s .args .marks))))
+loop-holds c = let s = c .before .before .before .before .before in (omega arith, (omega arith, diagonal-none (meaningFound (now (s .args .bytes)) (s .args .found)) (now (s .args .words)) (now (s .args .marks))))
 
 mul-cell : tie.Need-mul-cell Inv-loop μ-loop
 mul-cell c = omega (arith, cell-few c)
@@ -87,28 +85,28 @@ loop-less c = search needs
 loop-again : tie.Need-loop-again Inv-loop μ-loop
 loop-again c =
     let g = s (c .before) in
-    let l = c .before .before .loop in
-    let word = deviation-is (bytes (c .before)) (g .args .found) (g .pre .0) (l .i) (l .place) (c .word-at .result) (c .before .loop-test .taken) (l .inv .1 .0) (c .word-at .ensures) in
-    let mark = c .before .before .before .mark-of in (
+    let l = c .before .before .before .loop in
+    let word = deviation-is (bytes (c .before)) (g .args .found) (g .pre .0) (l .i) (l .place) (c .word-at .result) (c .before .if1 .taken) (l .inv .1 .0) (c .word-at .ensures) in
+    let mark = c .before .before .before .before .mark-of in (
       omega arith,
       (
         omega (arith, l .inv .1 .0),
-        grid-diagonal (meaningOf (bytes (c .before))) (n (c .before)) (same (c .before)) (g .pre .1) (l .i) (c .word-at .result) (mark .result) (c .before .loop-test .taken) word (mark .ensures ∙ ap (λ (f : Fields). min 1 (f .slen)) (g .pre .0 .fields)) (l .inv .1 .1),
+        grid-diagonal (meaningFound (bytes (c .before)) (g .args .found)) (n (c .before)) refl (g .pre .1) (l .i) (c .word-at .result) (mark .result) (c .before .if1 .taken) word (mark .ensures) (l .inv .1 .1),
       ),
     )
 
 same-length : tie.Need-same-length Inv-loop μ-loop
-same-length c = c .before .loop .inv .1 .1 .words-filled .same-length
+same-length c = c .before .before .loop .inv .1 .1 .words-filled .same-length
 
 same-length-2 : tie.Need-same-length-2 Inv-loop μ-loop
-same-length-2 c = c .before .loop .inv .1 .1 .marks-filled .same-length
+same-length-2 c = c .before .before .loop .inv .1 .1 .marks-filled .same-length
 
 returns : tie.Need-returns Inv-loop μ-loop
 returns c =
-    let g = c .before .before .before .before .before .before in
-    let l = c .before .loop in
-    let all : l .i ≡ g .args .found .fields .n = omega (arith, l .inv .0, c .loop-test .left) in
-    subst (λ (k : ℕ). Grid (meaningOf (now (g .args .bytes))) (diagonal k) (now (g .args .words)) (now (g .args .marks)) (l .words) (l .marks)) all (l .inv .1 .1)
+    let g = c .before .before .before .before .before .before .before .before in
+    let l = c .before .before .loop in
+    let all : l .i ≡ g .args .found .fields .n = omega (arith, l .inv .0, c .if1 .left) in
+    subst (λ (k : ℕ). Grid (meaningFound (now (g .args .bytes)) (g .args .found)) (diagonal k) (now (g .args .words)) (now (g .args .marks)) (l .words) (l .marks)) all (l .inv .1 .1)
 
 pub fill-diagonal-spec : {M : Type 1} → statement M
 fill-diagonal-spec =

@@ -1,14 +1,13 @@
 -- `unpack::cells::fill_pairs` meets its contract. The loop's invariant: the pairs of the first `row` rows are filled in. Assumes nothing.
 use Prim.Native.Nat.{ℕ, _+_, _-_, _*_, _≤_}
-use mathlib.Core.Path.{_≡_, _∙_, ap, subst}
+use mathlib.Core.Path.{_≡_, subst, refl}
 use mathlib.Core.List.{List}
 use native.Mathlib.Omega.{arith}
 use denote.Ref.{now}
 use lib.ListN.{length as size}
-use Rattle.matrix.specs.declared.Fields.{Fields}
 use Rattle.matrixwalk.specs.declared.Found.{Found}
-use Rattle.matrix.specs.Meaning.{Matrix, sum, nought}
-use Rattle.matrix.specs.Spelling.{meaningOf}
+use Rattle.matrix.specs.Meaning.{Matrix, sum}
+use Rattle.unpack.specs.Found.{meaningFound}
 use Rattle.unpack.specs.Cells.{Grid, At, ofRows}
 use Rattle.unpack.proofs.Filling.{small, words-within}
 use Rattle.unpack.proofs.Grids.{room-kept}
@@ -19,7 +18,7 @@ use Rattle.unpack.proofs.cells.fill_pairs.Tie as tie
 
 abbrev Inv-loop : tie.InvT-loop
 Inv-loop bytes found words₀ marks₀ f none next₀ row₀ words marks next row =
-    (row ≤ f .n) × (At (meaningOf bytes) found row (row + 1) next × Grid (meaningOf bytes) (ofRows row) words₀ marks₀ words marks)
+    (row ≤ f .n) × (At (meaningFound bytes found) found row (row + 1) next × Grid (meaningFound bytes found) (ofRows row) words₀ marks₀ words marks)
 
 abbrev μ-loop : tie.MeasureT-loop
 μ-loop bytes found words₀ marks₀ f none next₀ row₀ words marks next row = f .n - row
@@ -32,10 +31,7 @@ module _ (s : tie.Start Inv-loop μ-loop) where
   found = s .args .found
 
   abbrev m : Matrix
-  m = meaningOf bytes
-
-  same : found .fields .n ≡ m .fields .n
-  same = ap (λ (f : Fields). f .n) (s .pre .0 .fields)
+  m = meaningFound bytes found
 
   -- the words end within the bytes
   ends : found .words + found .fields .n * found .fields .slen + sum (m .marks) * found .fields .clen ≤ size bytes
@@ -65,8 +61,8 @@ fill-next-row-requires c κs =
     let s = start l in
     record {
       whole = s .pre .0;
-      nought-is = l .before .before .before .nought-of .ensures ∙ ap nought (s .pre .0 .fields);
-      within = omega (arith, same s, t .if1 .taken);
+      nought-is = l .before .before .before .nought-of .ensures;
+      within = omega (arith, t .if1 .taken);
       at = l .loop .inv .1 .0;
       room = room-kept (m s) (s .pre .1) (l .loop .inv .1 .1);
     }
@@ -85,7 +81,7 @@ loop-again c =
     let s = start l in
     let row = l .loop .row in
     let further : row + 2 ≡ row + 1 + 1 = omega arith in
-    (omega (arith, t .if1 .taken), (subst (λ (k : ℕ). At (m s) (found s) (row + 1) k (r .fill-next-row .result)) further (r .fill-next-row .ensures .0), grid-row (m s) (found s .fields .n) (same s) row (l .loop .inv .1 .1) (r .fill-next-row .ensures .1)))
+    (omega (arith, t .if1 .taken), (subst (λ (k : ℕ). At (m s) (found s) (row + 1) k (r .fill-next-row .result)) further (r .fill-next-row .ensures .0), grid-row (m s) (found s .fields .n) refl row (l .loop .inv .1 .1) (r .fill-next-row .ensures .1)))
 
 same-length : tie.Need-same-length Inv-loop μ-loop
 same-length c = c .before .before .loop .inv .1 .1 .words-filled .same-length

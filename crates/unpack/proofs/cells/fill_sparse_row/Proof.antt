@@ -5,16 +5,15 @@ use mathlib.Core.List.{List}
 use native.Mathlib.Omega.{arith}
 use denote.Ref.{now}
 use lib.ListN.{length as size, take, getD}
-use Rattle.matrix.specs.declared.Fields.{Fields}
 use Rattle.matrixwalk.specs.declared.Found.{Found}
-use Rattle.matrix.specs.Meaning.{Matrix, sum, pairs, nought}
+use Rattle.matrix.specs.Meaning.{Matrix, sum, pairs}
 use Rattle.matrix.specs.Order.{pairAt}
-use Rattle.matrix.specs.Spelling.{meaningOf}
+use Rattle.matrix.specs.Spelling.{meaningIn}
 use Rattle.matrix.proofs.Order.{place-below}
-use Rattle.unpack.specs.Found.{coefficientAt}
+use Rattle.unpack.specs.Found.{meaningFound, coefficientAt}
 use Rattle.unpack.specs.Cells.{Grid, ofRow}
 use Rattle.unpack.proofs.Filling.{Small, small, vector-within, coefficient-place, coefficient-next, coefficient-within, coefficient-is}
-use Rattle.unpack.proofs.Squares.{cell-small}
+use Rattle.matrix.proofs.Squares.{cell-small}
 use Rattle.unpack.proofs.Rows.{next-pair, next-row, cell-within, row-none, grid-pair}
 use borrow.Author.Needs.{needs}
 use Rattle.unpack.proofs.cells.fill_sparse_row.Statement.{statement}
@@ -29,11 +28,11 @@ record UpTo (m : Matrix) (row n length : ℕ) (words₀ marks₀ : List ℕ) (pl
   filled : Grid m (ofRow row column) words₀ marks₀ words marks
 
 abbrev Inv-loop : tie.InvT-loop
-Inv-loop bytes none row words₀ marks₀ f n length place₀ pair₀ column₀ words marks place pair column =
-    UpTo (meaningOf bytes) row n length words₀ marks₀ place₀ pair₀ words marks place pair column
+Inv-loop bytes none row words₀ marks₀ f n length start place₀ pair₀ column₀ words marks place pair column =
+    UpTo (meaningIn f bytes) row n length words₀ marks₀ place₀ pair₀ words marks place pair column
 
 abbrev μ-loop : tie.MeasureT-loop
-μ-loop bytes none row words₀ marks₀ f n length place₀ pair₀ column₀ words marks place pair column =
+μ-loop bytes none row words₀ marks₀ f n length start place₀ pair₀ column₀ words marks place pair column =
     n - column
 
 module _ (s : tie.Start Inv-loop μ-loop) where
@@ -49,19 +48,16 @@ module _ (s : tie.Start Inv-loop μ-loop) where
   bounds : Small (found .fields)
   bounds = small bytes found (s .pre .whole)
 
-  same : n ≡ meaningOf bytes .fields .n
-  same = ap (λ (f : Fields). f .n) (s .pre .whole .fields)
-
   row-below : s .args .row < n
-  row-below = omega (arith, s .pre .within, same)
+  row-below = omega (arith, s .pre .within)
 
 -- where the loop stands
 module _ (c : tie.At-loop Inv-loop μ-loop) where
   abbrev start : tie.Start Inv-loop μ-loop
-  start = c .before .before .before .before .before
+  start = c .before .before .before .before .before .before
 
   abbrev m : Matrix
-  m = meaningOf (bytes start)
+  m = meaningFound (bytes start) (found start)
 
   abbrev row : ℕ
   row = start .args .row
@@ -92,10 +88,10 @@ module _ (c : tie.In-loop Inv-loop μ-loop) where
   lower-few = cell-small (n (start here)) (column here) (row here) (bounds (start here) .size-most) (c .loop-test .taken) (row-below (start here))
 
   upper-there : (row here * n (start here) + column here < size (here .loop .words)) × (row here * n (start here) + column here < size (here .loop .marks))
-  upper-there = cell-within (m here) (n (start here)) (same (start here)) (start here .pre .room) (here .loop .inv .filled) (row here) (column here) (row-below (start here)) (c .loop-test .taken)
+  upper-there = cell-within (m here) (n (start here)) refl (start here .pre .room) (here .loop .inv .filled) (row here) (column here) (row-below (start here)) (c .loop-test .taken)
 
   lower-there : (column here * n (start here) + row here < size (here .loop .words)) × (column here * n (start here) + row here < size (here .loop .marks))
-  lower-there = cell-within (m here) (n (start here)) (same (start here)) (start here .pre .room) (here .loop .inv .filled) (column here) (row here) (c .loop-test .taken) (row-below (start here))
+  lower-there = cell-within (m here) (n (start here)) refl (start here .pre .room) (here .loop .inv .filled) (column here) (row here) (c .loop-test .taken) (row-below (start here))
 
 -- the word that is sent is there
 within : (c : tie.After-mark-at Inv-loop μ-loop) → let g = start (c .before .before) in c .before .before .loop .place + c .mark-at .result * found g .fields .clen ≤ size (bytes g)
@@ -103,22 +99,25 @@ within c = let l = c .before .before in
     let g = start l in
     coefficient-within (bytes g) (found g) (g .pre .whole) (l .loop .pair) (l .loop .place) (c .mark-at .result) (pair-below (c .before)) (place-is l) (c .mark-at .ensures)
 
+header-bytes-requires : tie.Need-header-bytes-requires Inv-loop μ-loop
+header-bytes-requires c κs = search needs
+
 add-column : tie.Need-add-column Inv-loop μ-loop
-add-column c = let g = c .before .before .before .before in omega (arith, row-below g, bounds g .size-most)
+add-column c = let g = c .before .before .before .before .before in omega (arith, row-below g, bounds g .size-most)
 
 loop-holds : tie.Need-loop-holds Inv-loop μ-loop
 loop-holds c =
-    let g = c .before .before .before .before in
+    let g = c .before .before .before .before .before in
     record {
       begun = omega arith;
       most = omega (arith, row-below g);
-      pair-is = g .pre .at .pair ∙ ap (λ (k : ℕ). pairAt k (g .args .row) (g .args .row + 1)) (sym (same g));
+      pair-is = g .pre .at .pair;
       moved = refl;
-      filled = row-none (meaningOf (bytes g)) (now (g .args .words)) (now (g .args .marks)) (g .args .row);
+      filled = row-none (meaningFound (bytes g) (found g)) (now (g .args .words)) (now (g .args .marks)) (g .args .row);
     }
 
 mark-at-requires : tie.Need-mark-at-requires Inv-loop μ-loop
-mark-at-requires c κs = let g = start (c .before) in (g .pre .whole .fields, (pair-below c, vector-within (bytes g) (found g) (g .pre .whole)))
+mark-at-requires c κs = let g = start (c .before) in (c .before .before .header-bytes .ensures, (pair-below c, vector-within (bytes g) (found g) (g .pre .whole)))
 
 word-or-requires : tie.Need-word-or-requires Inv-loop μ-loop
 word-or-requires c κs = (bounds (start (c .before .before)) .clen-few, within c)
@@ -166,14 +165,14 @@ loop-again c =
     let mark = w .before .mark-at in
     let put = c .before .before .before .before .put-pair .ensures in
     let next = coefficient-next (bytes g) (found g) (g .pre .whole) (l .loop .pair) (l .loop .place) (mark .result) below (place-is l) (mark .ensures) in
-    let word = coefficient-is (bytes g) (found g) (g .pre .whole) (l .loop .pair) (l .loop .place) (mark .result) below (place-is l) (mark .ensures) (g .args .none) (w .word-or .result) (g .pre .nought-is ∙ ap nought (sym (g .pre .whole .fields))) (w .word-or .ensures) in
+    let word = coefficient-is (bytes g) (found g) (g .pre .whole) (l .loop .pair) (l .loop .place) (mark .result) below (place-is l) (mark .ensures) (g .args .none) (w .word-or .result) (g .pre .nought-is) (w .word-or .ensures) in
     record {
       begun = omega (arith, inv .begun);
       most = omega (arith, w .before .before .loop-test .taken);
       pair-is = omega (arith, inv .pair-is, next-pair (n g) (row l) (column l) (inv .begun));
       moved = omega (arith, inv .moved, next);
       filled = rw (put .0, put .1)
-          (grid-pair (m l) (n g) (same g) (g .pre .room) (row l) (column l) (w .word-or .result) (mark .result) (inv .begun) (w .before .before .loop-test .taken)
+          (grid-pair (m l) (n g) refl (g .pre .room) (row l) (column l) (w .word-or .result) (mark .result) (inv .begun) (w .before .before .loop-test .taken)
           (word ∙ ap (λ (k : ℕ). getD (m l .coefficients) k 0) (inv .pair-is)) (mark .ensures ∙ ap (λ (k : ℕ). getD (m l .marks) k 0) (inv .pair-is)) (inv .filled));
     }
 
@@ -188,7 +187,7 @@ returns c =
     let l = c .before in
     let g = start l in
     let all : l .loop .column ≡ found g .fields .n = omega (arith, l .loop .inv .most, c .loop-test .left) in
-    let ends : l .loop .pair ≡ pairAt (m l .fields .n) (row l + 1) (row l + 2) = l .loop .inv .pair-is ∙ ap (pairAt (n g) (row l)) all ∙ ap (λ (k : ℕ). pairAt k (row l) k) (same g) ∙ next-row (m l .fields .n) (row l) (g .pre .within) in (
+    let ends : l .loop .pair ≡ pairAt (m l .fields .n) (row l + 1) (row l + 2) = l .loop .inv .pair-is ∙ ap (pairAt (n g) (row l)) all ∙ next-row (m l .fields .n) (row l) (g .pre .within) in (
       record { pair = ends; place = place-is l ∙ ap (coefficientAt (m l) (found g)) ends },
       subst (λ (k : ℕ). Grid (m l) (ofRow (row l) k) (now (g .args .words)) (now (g .args .marks)) (l .loop .words) (l .loop .marks)) all (l .loop .inv .filled),
     )
@@ -199,6 +198,7 @@ fill-sparse-row-spec =
     (tie.spec
     Inv-loop
     μ-loop
+    header-bytes-requires
     add-column
     loop-holds
     mark-at-requires

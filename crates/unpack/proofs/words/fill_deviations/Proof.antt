@@ -1,7 +1,7 @@
 -- `unpack::words::fill_deviations` meets its contract: a deviation is a word that is sent. Assumes nothing.
 use denote.Ref.{now}
 use Rattle.verdict.proofs.Lent.{over-same}
-use Rattle.unpack.proofs.Filling.{small, deviations-stand, deviations-within}
+use Rattle.unpack.proofs.Filling.{small, deviations-here, deviations-within}
 use borrow.Author.Needs.{needs}
 use Rattle.unpack.proofs.words.fill_deviations.Statement.{statement}
 use Rattle.unpack.proofs.words.fill_deviations.Tie as tie
@@ -19,7 +19,7 @@ returns : tie.Need-returns
 returns c =
     let s = c .before .before .before .before .before .before in
     let r = c .before .before .fill-words in
-    over-same _ _ (now (s .args .deviations)) (r .last .1 .1 .1 .1 .0) (r .ensures) (deviations-stand (now (s .args .bytes)) (s .args .found) (s .pre .0))
+    over-same _ _ (now (s .args .deviations)) (r .last .1 .1 .1 .1 .0) (r .ensures) (deviations-here (now (s .args .bytes)) (s .args .found) (s .pre .0))
 
 pub fill-deviations-spec : {M : Type 1} → statement M
 fill-deviations-spec = tie.close (tie.spec fill-words-requires same-length returns)

@@ -6,21 +6,22 @@ use native.Mathlib.Omega.{arith}
 use denote.Ref.{now}
 use lib.ListN.{length as size, take}
 use Rattle.matrix.specs.Meaning.{sum, pairs}
-use Rattle.matrix.specs.Spelling.{meaningOf}
-use Rattle.unpack.specs.Found.{coefficientAt}
+use Rattle.matrix.specs.Spelling.{meaningIn}
+use Rattle.unpack.specs.Found.{meaningFound, coefficientAt}
 use Rattle.verdict.specs.Lent.{overFirst}
 use Rattle.verdict.proofs.Lent.{filled-more, filled-length, filled-all}
 use Rattle.unpack.proofs.Filling.{Small, small, vector-within, words-within, coefficient-count, mark-count, coefficient-place, coefficient-next, coefficient-within, coefficient-is}
+use Rattle.counts.proofs.Counts.{pairs-counted}
 use borrow.Author.Needs.{needs}
 use Rattle.unpack.proofs.words.fill_sent.Statement.{statement}
 use Rattle.unpack.proofs.words.fill_sent.Tie as tie
 
 abbrev Inv-loop : tie.InvT-loop
-Inv-loop bytes coefficients₀ marks₀ f count none length place₀ pair₀ coefficients marks place pair =
-    (pair ≤ count) × ((place ≡ place₀ + sum (take pair (meaningOf bytes .marks)) * length) × ((coefficients ≡ overFirst pair (meaningOf bytes .coefficients) coefficients₀) × (marks ≡ overFirst pair (meaningOf bytes .marks) marks₀)))
+Inv-loop bytes coefficients₀ marks₀ f count none length start place₀ pair₀ coefficients marks place pair =
+    (pair ≤ count) × ((place ≡ place₀ + sum (take pair (meaningIn f bytes .marks)) * length) × ((coefficients ≡ overFirst pair (meaningIn f bytes .coefficients) coefficients₀) × (marks ≡ overFirst pair (meaningIn f bytes .marks) marks₀)))
 
 abbrev μ-loop : tie.MeasureT-loop
-μ-loop bytes coefficients₀ marks₀ f count none length place₀ pair₀ coefficients marks place pair =
+μ-loop bytes coefficients₀ marks₀ f count none length start place₀ pair₀ coefficients marks place pair =
     count - pair
 
 -- the fields are small
@@ -28,30 +29,30 @@ bounds : (s : tie.Start Inv-loop μ-loop) → Small (s .args .found .fields)
 bounds s = small (now (s .args .bytes)) (s .args .found) (s .pre .0)
 
 -- the words end within the bytes
-ends : (s : tie.Start Inv-loop μ-loop) → let f = s .args .found .fields in s .args .found .words + f .n * f .slen + sum (meaningOf (now (s .args .bytes)) .marks) * f .clen ≤ size (now (s .args .bytes))
+ends : (s : tie.Start Inv-loop μ-loop) → let f = s .args .found .fields in s .args .found .words + f .n * f .slen + sum (meaningFound (now (s .args .bytes)) (s .args .found) .marks) * f .clen ≤ size (now (s .args .bytes))
 ends s = words-within (now (s .args .bytes)) (s .args .found) (s .pre .0)
 
 module _ (c : tie.At-loop Inv-loop μ-loop) where
   abbrev s : tie.Start Inv-loop μ-loop
-  s = c .before .before .before .before .before .before .before .before .before
+  s = c .before .before .before .before .before .before .before .before .before .before
 
   abbrev bytes : List ℕ
   bytes = now (s .args .bytes)
 
-  count-is : c .before .before .before .before .pairs-of .result ≡ pairs (s .args .found .fields .n)
-  count-is = c .before .before .before .before .pairs-of .ensures
+  count-is : c .before .before .before .before .before .pairs-of .result ≡ pairs (s .args .found .fields .n)
+  count-is = let k = c .before .before .before .before .before .pairs-of in pairs-counted (s .args .found .fields .n) (k .result) (bounds s .size-most) (k .ensures)
 
-  place-is : c .loop .place ≡ coefficientAt (meaningOf bytes) (s .args .found) (c .loop .pair)
+  place-is : c .loop .place ≡ coefficientAt (meaningFound bytes (s .args .found)) (s .args .found) (c .loop .pair)
   place-is = c .loop .inv .1 .0 ∙ coefficient-place bytes (s .args .found) (s .pre .0) (c .loop .pair)
 
   kept-coefficients : size (c .loop .coefficients) ≡ size (now (s .args .coefficients))
   kept-coefficients =
-      filled-length (meaningOf bytes .coefficients) (now (s .args .coefficients)) (c .loop .coefficients) (c .loop .pair) (c .loop .inv .1 .1 .0)
+      filled-length (meaningFound bytes (s .args .found) .coefficients) (now (s .args .coefficients)) (c .loop .coefficients) (c .loop .pair) (c .loop .inv .1 .1 .0)
       (omega (arith, c .loop .inv .0, count-is, coefficient-count bytes (s .args .found) (s .pre .0))) (omega (arith, c .loop .inv .0, count-is, s .pre .1 .0))
 
   kept-marks : size (c .loop .marks) ≡ size (now (s .args .marks))
   kept-marks =
-      filled-length (meaningOf bytes .marks) (now (s .args .marks)) (c .loop .marks) (c .loop .pair) (c .loop .inv .1 .1 .1)
+      filled-length (meaningFound bytes (s .args .found) .marks) (now (s .args .marks)) (c .loop .marks) (c .loop .pair) (c .loop .inv .1 .1 .1)
       (omega (arith, c .loop .inv .0, count-is, mark-count bytes (s .args .found) (s .pre .0))) (omega (arith, c .loop .inv .0, count-is, s .pre .1 .1))
 
 -- the pair is one of the pack's
@@ -64,23 +65,26 @@ within c = let l = c .before .before in
     coefficient-within (bytes l) (s l .args .found) (s l .pre .0) (l .loop .pair) (l .loop .place) (c .mark-at .result) (pair-below (c .before)) (place-is l) (c .mark-at .ensures)
 
 pairs-of-requires : tie.Need-pairs-of-requires Inv-loop μ-loop
-pairs-of-requires c κs = let s = c .before .before .before .before in (bounds s .size-least, bounds s .size-most)
+pairs-of-requires c κs = search needs
 
 nought-of-requires : tie.Need-nought-of-requires Inv-loop μ-loop
 nought-of-requires c κs = bounds (c .before .before .before .before .before) .clen-few
 
+header-bytes-requires : tie.Need-header-bytes-requires Inv-loop μ-loop
+header-bytes-requires c κs = search needs
+
 mul-place : tie.Need-mul-place Inv-loop μ-loop
-mul-place c = omega (arith, ends (c .before .before .before .before .before .before .before))
+mul-place c = omega (arith, ends (c .before .before .before .before .before .before .before .before))
 
 add-place : tie.Need-add-place Inv-loop μ-loop
-add-place c = omega (arith, ends (c .before .before .before .before .before .before .before .before))
+add-place c = omega (arith, ends (c .before .before .before .before .before .before .before .before .before))
 
 loop-holds : tie.Need-loop-holds Inv-loop μ-loop
 unfolding sum
 loop-holds c = (omega arith, (omega arith, (refl, refl)))
 
 mark-at-requires : tie.Need-mark-at-requires Inv-loop μ-loop
-mark-at-requires c κs = let l = c .before in (s l .pre .0 .fields, (pair-below c, vector-within (bytes l) (s l .args .found) (s l .pre .0)))
+mark-at-requires c κs = let l = c .before in (l .before .before .before .header-bytes .ensures, (pair-below c, vector-within (bytes l) (s l .args .found) (s l .pre .0)))
 
 slice-write-marks : tie.Need-slice-write-marks Inv-loop μ-loop
 slice-write-marks c = let l = c .before .before in omega (arith, kept-marks l, s l .pre .1 .1, pair-below (c .before))
@@ -113,10 +117,10 @@ loop-again : tie.Need-loop-again Inv-loop μ-loop
 loop-again c =
     let l = c .before .before .before in
     let b = pair-below (c .before .before) in
-    let m = meaningOf (bytes l) in
+    let m = meaningFound (bytes l) (s l .args .found) in
     let g = s l in
     let mark = c .before .mark-at in
-    let is = coefficient-is (bytes l) (g .args .found) (g .pre .0) (l .loop .pair) (l .loop .place) (mark .result) b (place-is l) (mark .ensures) (l .before .before .before .nought-of .result) (c .word-or .result) (l .before .before .before .nought-of .ensures) (c .word-or .ensures) in (
+    let is = coefficient-is (bytes l) (g .args .found) (g .pre .0) (l .loop .pair) (l .loop .place) (mark .result) b (place-is l) (mark .ensures) (l .before .before .before .before .nought-of .result) (c .word-or .result) (l .before .before .before .before .nought-of .ensures) (c .word-or .ensures) in (
       omega arith,
       (
         omega (arith, l .loop .inv .1 .0, coefficient-next (bytes l) (g .args .found) (g .pre .0) (l .loop .pair) (l .loop .place) (mark .result) b (place-is l) (mark .ensures)),
@@ -137,7 +141,7 @@ returns : tie.Need-returns Inv-loop μ-loop
 returns c =
     let l = c .before in
     let g = s l in
-    let m = meaningOf (bytes l) in (
+    let m = meaningFound (bytes l) (s l .args .found) in (
       filled-all (m .coefficients) (now (g .args .coefficients)) (l .loop .coefficients) (l .loop .pair) (l .loop .inv .1 .1 .0) (omega (arith, l .loop .inv .0, c .loop-test .left, count-is l, coefficient-count (bytes l) (g .args .found) (g .pre .0))),
       filled-all (m .marks) (now (g .args .marks)) (l .loop .marks) (l .loop .pair) (l .loop .inv .1 .1 .1) (omega (arith, l .loop .inv .0, c .loop-test .left, count-is l, mark-count (bytes l) (g .args .found) (g .pre .0))),
     )
@@ -150,6 +154,7 @@ fill-sent-spec =
     μ-loop
     pairs-of-requires
     nought-of-requires
+    header-bytes-requires
     mul-place
     add-place
     loop-holds
