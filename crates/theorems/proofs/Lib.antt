@@ -1,5 +1,10 @@
 pub mod Said
+pub mod Framed
 pub mod Frames
+pub mod Lines
+pub mod Reporting
+pub mod Progress
+pub mod Running
 pub mod Paper
 pub mod Stored
 pub mod ArrayTrip
