@@ -12,8 +12,8 @@ use Rattle.verdict.proofs.Cases.{either}
 use Rattle.word.specs.Digits.{digits, valueOf}
 use Rattle.word.specs.Bytes.{wordAt}
 use Rattle.word.proofs.Digits.{Below, below-take, below-drop, length-digits, digits-value, value-digits, word-below}
-use Rattle.frame.specs.declared.Kind.{Kind}
-use Rattle.frame.specs.declared.Kind.the-variants.{Matrix, Array, Unknown}
+use Rattle.outcome.specs.declared.Kind.{Kind}
+use Rattle.outcome.specs.declared.Kind.the-variants.{Matrix, Array, Unknown}
 use Rattle.frame.specs.Frame.{same, kindOf}
 
 same-self : (xs : List ℕ) → same xs xs ≡ true

@@ -1,5 +1,3 @@
 pub mod Keys
-pub mod Lengths
+pub mod Parts
 pub mod Only
-pub mod Framed
-pub mod Stating

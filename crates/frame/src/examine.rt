@@ -2,13 +2,15 @@
 ghost use mathlib.Core.Path.{_≡_};
 ghost use Prim.Native.Nat.{_≤_, _+_};
 ghost use lib.ListN.{length, take};
-ghost use Rattle.frame.specs.Frame.{kindOf, outcomeOf, refusing, valueAnswer, lengthOf, lengthAnswer, answerOf};
+ghost use Rattle.frame.specs.Frame.{kindOf, outcomeOf, valueAnswer, lengthAnswer, answerOf};
+ghost use Rattle.berlength.specs.Lengths.{lengthOf};
 ghost use Rattle.word.specs.Bytes.{wordAt};
-use crate::Answer;
-use crate::Kind;
-use crate::Outcome;
-use crate::length::Length;
-use crate::length::length_at;
+use berlength::Length;
+use berlength::length_at;
+use outcome::FrameAnswer;
+use outcome::Kind;
+use outcome::Outcome;
+use outcome::refuse;
 use verdict::Reason;
 use verdict::Refusal;
 use verdict::Verdict;
@@ -17,17 +19,6 @@ use word::bytes::read_at;
 
 // The greatest count of a frame's bytes.
 pub const LONGEST: usize = 32832;
-
-// A frame's own refusal.
-fn refuse(kind: Kind, reason: Reason) -> Answer
-    ensures { λ r. ⌜ r ≡ refusing kind reason ⌝ }
-{
-    let refusal = Refusal { reason, place: 0 };
-    Answer {
-        kind,
-        outcome: Outcome::Bad(refusal),
-    }
-}
 
 // A pack's verdict on a value of `count` bytes.
 fn outcome_of(verdict: Verdict, count: usize) -> Outcome
@@ -49,15 +40,15 @@ fn outcome_of(verdict: Verdict, count: usize) -> Outcome
 }
 
 // The value of a frame of this kind.
-fn from_value(kind: Kind, value: &[u8]) -> Answer
+fn from_value(kind: Kind, value: &[u8]) -> FrameAnswer
     ensures { λ r. ⌜ r ≡ valueAnswer kind (now (value .entry)) ⌝ }
 {
     match kind {
-        Kind::Matrix => Answer {
+        Kind::Matrix => FrameAnswer {
             kind: Kind::Matrix,
             outcome: outcome_of(matrixreader::verdict(value), value.len()),
         },
-        Kind::Array => Answer {
+        Kind::Array => FrameAnswer {
             kind: Kind::Array,
             outcome: outcome_of(arrayreader::verdict(value), value.len()),
         },
@@ -66,7 +57,7 @@ fn from_value(kind: Kind, value: &[u8]) -> Answer
 }
 
 // Behind the key.
-fn from_length(kind: Kind, bytes: &[u8]) -> Answer
+fn from_length(kind: Kind, bytes: &[u8]) -> FrameAnswer
     ensures { λ r. ⌜ r ≡ lengthAnswer kind (lengthOf (now (bytes .entry))) (now (bytes .entry)) ⌝ }
 {
     let length = length_at(bytes, 0);
@@ -114,7 +105,7 @@ fn kind_of(bytes: &[u8]) -> Kind
 }
 
 // The answer to a frame's bytes.
-pub fn examine(bytes: &[u8]) -> Answer
+pub fn examine(bytes: &[u8]) -> FrameAnswer
     ensures { λ r. ⌜ r ≡ answerOf (now (bytes .entry)) ⌝ }
 {
     if LONGEST < bytes.len() {

@@ -1,24 +1,27 @@
 -- How a chunk is fed line by line: a piece without LF, a line that closes, one that has no room. Assumes nothing.
-use Prim.Native.Nat.{ℕ, zero, suc, _+_, _-_, _≤_, _<_}
+use Prim.Native.Nat.{ℕ, suc, _+_, _-_, _≤_, _<_}
 use mathlib.Core.Path.{_≡_, refl, sym, ap, ap₂, _∙_}
 use mathlib.Core.Bool.{Bool, true, false, _||_, cond, false≢true}
-use mathlib.Core.List.{List, [], _++_, append-assoc, append-nil}
+use mathlib.Core.List.{List, [], _∷_, _++_, append-assoc, append-nil}
 use native.Mathlib.Omega.{arith}
 use borrow.Author.Tests.{lt-ltb, le-ltb, eq-eqb, eqb-true, eqb-false, ltb-true, ltb-false}
 use lib.Dec.{eqb, ltb}
-use lib.ListN.{length, take, drop, getD, length-append, drop-of-length-le}
-use lib.Seq.{drop-cons}
+use lib.ListN.{length, drop, getD, length-append, length-drop, drop-of-length-le}
+use lib.Seq.{drop-cons, drop-drop, getD-drop}
 use Rattle.verdict.specs.declared.Reason.the-variants.{SmallBuffer}
 use Rattle.report.specs.declared.feed.State.{State}
 use Rattle.report.specs.declared.feed.Going.{Going}
 use Rattle.report.specs.declared.feed.Feeding.{Feeding}
 use Rattle.report.specs.declared.feed.Feeding.the-variants.{Fed as FedCase, Refused}
-use Rattle.report.specs.Line.{longestLine}
+use Rattle.lines.specs.declared.Taking.the-variants.{Took}
+use Rattle.lines.specs.Taking.{longestLine, pieceOf, kept, heldOn, keptAll, heldAll, TakenBy}
+use Rattle.lines.proofs.Pieces.{piece-none, piece-more, piece-within, piece-stops, Taken, taken-all}
 use Rattle.text.specs.Text.{textOf}
 use Rattle.verdict.specs.Writing.{put}
 use Rattle.text.specs.Writing.{room}
-use Rattle.report.specs.Report.{nextNumber}
-use Rattle.report.specs.Feeding.{kept, heldOn, keptAll, heldAll, heldAnswer, Piece, Came, behind, nothing, further, cameOf, Sofar, answerFor, Closed, Fed, Kept, tooSmall, FedBy}
+use Rattle.report.specs.Line.{nextNumber}
+use Rattle.report.specs.Feeding.{heldAnswer, Came, behind, nothing, cameOf, answerFor, Fed, Kept, tooSmall, FedBy}
+use Rattle.report.specs.Passing.{further, Sofar, Closed}
 use Rattle.verdict.proofs.Putting.{put-none, put-put, length-put}
 use Rattle.verdict.proofs.Cases.{either, by-test}
 
@@ -32,21 +35,21 @@ further-further j k p q came =
 behind-further : (text : List ℕ) (came : Came) → behind text came ≡ further 1 text came
 behind-further text came = ap (λ (k : ℕ). record { number = came .number; held = came .held; buffer = came .buffer; text = text ++ came .text; taken = k }) (omega arith)
 
-module _ (chunk : List ℕ) where
-  -- a piece without LF is kept
-  came-piece : (k from number held left : ℕ) (buffer : List ℕ) → from + k ≤ length chunk → ((i : ℕ) → from ≤ i → i < from + k → eqb (getD chunk i 0) 10 ≡ false)
-      → cameOf number held buffer left (drop from chunk) ≡ further k [] (cameOf number (heldAll held k) (keptAll buffer held (take k (drop from chunk))) left (drop (from + k) chunk))
-  unfolding cameOf heldAll keptAll
-  came-piece zero from number held left buffer h none =
-      let e : from + 0 ≡ from = omega arith in rw e (further-none (cameOf number held buffer left (drop from chunk)))
-  came-piece (suc k) from number held left buffer h none =
-      let c = getD chunk from 0 in
-      let e : from + suc k ≡ suc from + k = omega arith in
-      let ih = came-piece k (suc from) number (heldOn held) left (kept buffer held c) (omega arith) (λ i l m. none i (omega arith) (omega arith)) in
-      let rest = cameOf number (heldAll (heldOn held) k) (keptAll (kept buffer held c) (heldOn held) (take k (drop (suc from) chunk))) left (drop (suc from + k) chunk) in
-      rw (drop-cons chunk from 0 (omega arith), none from (omega arith) (omega arith), e)
-      (ap (behind []) ih ∙ behind-further [] (further k [] rest) ∙ further-further 1 k [] [] rest ∙ ap (λ (j : ℕ). further j [] rest) (omega arith))
+-- the characters before LF are kept
+came-piece : (chunk : List ℕ) (number held left : ℕ) (buffer : List ℕ) → let p = pieceOf chunk in
+    cameOf number held buffer left chunk ≡ further (length p) [] (cameOf number (heldAll held (length p)) (keptAll buffer held p) left (drop (length p) chunk))
+unfolding cameOf heldAll keptAll pieceOf
+came-piece [] number held left buffer = further-none (nothing number held buffer)
+came-piece (c ∷ chunk) number held left buffer =
+    let k = length (pieceOf chunk) in
+    let rest = cameOf number (heldAll (heldOn held) k) (keptAll (kept buffer held c) (heldOn held) (pieceOf chunk)) left (drop k chunk) in
+    either (eqb c 10)
+    (λ e. rw (piece-none c chunk e) (further-none (cameOf number held buffer left (c ∷ chunk))))
+    (λ e.
+    rw (piece-more c chunk e, e)
+    (ap (behind []) (came-piece chunk number (heldOn held) left (kept buffer held c)) ∙ behind-further [] (further k [] rest) ∙ further-further 1 k [] [] rest ∙ ap (λ (j : ℕ). further j [] rest) (omega arith)))
 
+module _ (chunk : List ℕ) where
   module _ (number held left : ℕ) (buffer : List ℕ) (to : ℕ) where
     came-end : length chunk ≤ to → cameOf number held buffer left (drop to chunk) ≡ nothing number held buffer
     unfolding cameOf
@@ -62,6 +65,12 @@ module _ (chunk : List ℕ) where
         cameOf number held buffer left (drop to chunk) ≡ further 1 text (cameOf (nextNumber number) 0 buffer (left - length text) (drop (to + 1) chunk))
     unfolding cameOf
     came-close h e r = let n : to + 1 ≡ suc to = omega arith in rw (drop-cons chunk to 0 h, eq-eqb (getD chunk to 0) 10 e, le-ltb left room r, n) (behind-further (textOf number (heldAnswer buffer held)) _)
+
+-- what is taken of a chunk is within it
+pub piece-to : (chunk : List ℕ) (at : Going) (buffer : List ℕ) → at .taken ≤ length chunk → longestLine ≤ length buffer → (held′ count : ℕ) (buffer′ : List ℕ) → TakenBy (at .held) (drop (at .taken) chunk) buffer (Took held′ count) buffer′
+    → at .taken + count ≤ length chunk
+piece-to chunk at buffer far l held′ count buffer′ p =
+    omega (arith, taken-all (at .held) (drop (at .taken) chunk) buffer held′ count buffer′ l p .counted, piece-within (drop (at .taken) chunk), length-drop (at .taken) chunk)
 
 module _ (state : State) (chunk buffer₀ out₀ : List ℕ) where
   pub sofar-none : Sofar state chunk buffer₀ out₀ (record { number = state .number; held = state .held; taken = 0; written = 0; more = true }) buffer₀ out₀
@@ -91,17 +100,30 @@ module _ (state : State) (chunk buffer₀ out₀ : List ℕ) where
           wrote = z .wrote ∙ ap (put out₀ 0) (sym (ap (λ (x : Came). x .text) c ∙ t));
         }
 
-    module _ (m : at .more ≡ true) (to : ℕ) (p : Piece chunk (at .taken) to)
-        (held′ : ℕ) (h : held′ ≡ heldAll (at .held) (to - at .taken)) (buffer′ : List ℕ) (b : buffer′ ≡ keptAll buffer (at .held) (take (to - at .taken) (drop (at .taken) chunk))) where
+    module _ (m : at .more ≡ true) (count held′ : ℕ) (buffer′ : List ℕ) (l : longestLine ≤ length buffer) (p : TakenBy (at .held) (drop (at .taken) chunk) buffer (Took held′ count) buffer′) where
+      abbrev to : ℕ
+      to = at .taken + count
+
+      took : Taken (at .held) (drop (at .taken) chunk) buffer held′ count buffer′
+      took = taken-all (at .held) (drop (at .taken) chunk) buffer held′ count buffer′ l p
+
+      within : to ≤ length chunk
+      within = piece-to chunk at buffer (z .far) l held′ count buffer′ p
+
+      stops : to < length chunk → getD chunk to 0 ≡ 10
+      stops h =
+          let k = length (pieceOf (drop (at .taken) chunk)) in
+          let e : at .taken + k ≡ to = omega (arith, took .counted) in
+          rw (← e) (sym (getD-drop (at .taken) chunk k 0) ∙ piece-stops (drop (at .taken) chunk) (omega (arith, took .counted, length-drop (at .taken) chunk)))
+
       -- up to the end of a piece
       sofar-piece : cameOf (state .number) (state .held) buffer₀ (length out₀) chunk ≡ further to (z .text) (cameOf (at .number) held′ buffer′ (length out₀ - at .written) (drop to chunk))
       sofar-piece =
-          let e : at .taken + (to - at .taken) ≡ to = omega (arith, p .clear .forward) in
           let c : cameOf (state .number) (state .held) buffer₀ (length out₀) chunk ≡ further (at .taken) (z .text) (cameOf (at .number) (at .held) buffer (length out₀ - at .written) (drop (at .taken) chunk)) = z .came ∙ rw m in
           c
-          ∙ ap (further (at .taken) (z .text)) (came-piece chunk (to - at .taken) (at .taken) (at .number) (at .held) (length out₀ - at .written) buffer (omega (arith, p .clear .forward, p .clear .within)) (λ i l m. p .clear .none i l (omega (arith, p .clear .forward))))
-          ∙ further-further (at .taken) (to - at .taken) (z .text) [] _
-          ∙ rw (e, append-nil, ← h, ← b)
+          ∙ ap (further (at .taken) (z .text)) (came-piece (drop (at .taken) chunk) (at .number) (at .held) (length out₀ - at .written) buffer)
+          ∙ further-further (at .taken) (length (pieceOf (drop (at .taken) chunk))) (z .text) [] _
+          ∙ rw (← took .holds, ← took .keeps, ← took .counted, append-nil, drop-drop count (at .taken) chunk)
 
       -- where the chunk ends, or there is no room for a line
       pub sofar-stopped : eqb to (length chunk) || ltb (length out - at .written) room ≡ true
@@ -111,21 +133,21 @@ module _ (state : State) (chunk buffer₀ out₀ : List ℕ) where
             text = z .text;
             counted = z .counted;
             room-left = z .room-left;
-            far = p .clear .within;
+            far = within;
             wrote = z .wrote;
             came =
                 sofar-piece ∙ ap (further to (z .text))
                 (either (eqb to (length chunk))
                 (λ e. came-end chunk (at .number) held′ (length out₀ - at .written) buffer′ to (omega (arith, eqb-true to (length chunk) e)))
                 (λ e.
-                let l : to < length chunk = omega (arith, eqb-false to (length chunk) e, p .clear .within) in
+                let h : to < length chunk = omega (arith, eqb-false to (length chunk) e, within) in
                 let r : length out - at .written < room = ltb-true (length out - at .written) room (sym (rw e) ∙ t) in
-                came-stop chunk (at .number) held′ (length out₀ - at .written) buffer′ to l (p .stops l) (omega (arith, sofar-length, r))));
+                came-stop chunk (at .number) held′ (length out₀ - at .written) buffer′ to h (stops h) (omega (arith, sofar-length, r))));
           }
 
       pub sofar-closed : to < length chunk → room ≤ length out - at .written → (next : ℕ) (out′ : List ℕ) → Closed (at .number) buffer′ held′ out (at .written) next out′
           → Sofar state chunk buffer₀ out₀ (record { number = nextNumber (at .number); held = 0; taken = to + 1; written = next; more = true }) buffer′ out′
-      sofar-closed l r next out′ d =
+      sofar-closed h r next out′ d =
           let line = textOf (at .number) (heldAnswer buffer′ held′) in
           let left : length out₀ - at .written - length line ≡ length out₀ - next = omega (arith, d .behind) in
           record {
@@ -135,7 +157,7 @@ module _ (state : State) (chunk buffer₀ out₀ : List ℕ) where
             far = omega arith;
             wrote = d .wrote ∙ ap₂ (λ (o : List ℕ) (n : ℕ). put o n line) (z .wrote) (omega (arith, z .counted)) ∙ put-put out₀ 0 (z .text) line (omega (arith, z .counted, z .room-left));
             came =
-                sofar-piece ∙ ap (further to (z .text)) (came-close chunk (at .number) held′ (length out₀ - at .written) buffer′ to l (p .stops l) (omega (arith, sofar-length, r)))
+                sofar-piece ∙ ap (further to (z .text)) (came-close chunk (at .number) held′ (length out₀ - at .written) buffer′ to h (stops h) (omega (arith, sofar-length, r)))
                 ∙ further-further to 1 (z .text) line _ ∙ rw left;
           }
 

@@ -12,25 +12,26 @@ use Rattle.verdict.specs.declared.Verdict.the-variants.{Complete}
 use Rattle.verdict.specs.Writing.{put, decided}
 use Rattle.verdict.proofs.Cases.{by-test}
 use Rattle.verdict.proofs.Putting.{put-none}
-use Rattle.frame.specs.declared.Kind.the-variants.{Unknown}
-use Rattle.frame.specs.declared.Outcome.the-variants.{Open}
-use Rattle.frame.specs.declared.Answer.{Answer}
+use Rattle.outcome.specs.declared.Kind.the-variants.{Unknown}
+use Rattle.outcome.specs.declared.Outcome.the-variants.{Open}
+use Rattle.outcome.specs.declared.FrameAnswer.{FrameAnswer}
 use Rattle.text.specs.Text.{textOf}
 use Rattle.text.specs.Writing.{room, WrittenLine}
 use Rattle.text.proofs.Decimals.{decimal-short}
 use Rattle.text.proofs.Lines.{length-text, line-left, line-counted}
 use Rattle.report.specs.declared.feed.State.{State}
-use Rattle.report.specs.Feeding.{heldAnswer, Closed, openHeld, Finished}
+use Rattle.report.specs.Feeding.{heldAnswer, openHeld, Finished}
+use Rattle.report.specs.Passing.{Closed}
 
 -- where any line has room, the line that is held is closed
-module _ (number : ℕ) (answer : Answer) (out : List ℕ) (place : ℕ) (verdict : Verdict) (out′ : List ℕ) (h : place + room ≤ length out) (w : WrittenLine number answer out place verdict out′) where
+module _ (number : ℕ) (answer : FrameAnswer) (out : List ℕ) (place : ℕ) (verdict : Verdict) (out′ : List ℕ) (h : place + room ≤ length out) (w : WrittenLine number answer out place verdict out′) where
   pub line-closed : (buffer : List ℕ) (held : ℕ) → answer ≡ heldAnswer buffer held → (n : ℕ) → verdict ≡ Complete n → Closed number buffer held out place (place + n) out′
   line-closed buffer held a n e =
       let m : n ≡ length (textOf number answer) = line-counted number answer out place verdict out′ h w n e in
       record {
-        short = subst (λ (x : Answer). length (textOf number x) ≤ room) a (w .short);
-        behind = ap (λ (k : ℕ). place + k) m ∙ ap (λ (x : Answer). place + length (textOf number x)) a;
-        wrote = line-left number answer out place verdict out′ h w ∙ ap (λ (x : Answer). put out place (textOf number x)) a;
+        short = subst (λ (x : FrameAnswer). length (textOf number x) ≤ room) a (w .short);
+        behind = ap (λ (k : ℕ). place + k) m ∙ ap (λ (x : FrameAnswer). place + length (textOf number x)) a;
+        wrote = line-left number answer out place verdict out′ h w ∙ ap (λ (x : FrameAnswer). put out place (textOf number x)) a;
       }
 
 -- behind the last chunk: no line is open, or one that is written
@@ -48,6 +49,6 @@ module _ (state : State) (out : List ℕ) where
 -- an open line's report line has room where any has
 pub open-short : (number held : ℕ) → number < 2 ^ 64 → length (openHeld number held) ≤ room
 open-short number held h =
-    let answer : Answer = record { kind = Unknown; outcome = Open } in
+    let answer : FrameAnswer = record { kind = Unknown; outcome = Open } in
     by-test (λ (text : List ℕ). length text ≤ room) (eqb held 0) [] (textOf number answer) (λ _. omega arith)
     (λ _. omega (arith, length-text number answer, decimal-short number h, decimal-short 0 (omega arith)))

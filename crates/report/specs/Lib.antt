@@ -1,4 +1,4 @@
 pub mod Line
-pub mod Report
 pub mod Feeding
+pub mod Passing
 pub mod Stated

@@ -1,12 +1,11 @@
-// Checks a file of frames: a line of hexadecimal for each on standard input, a report line for each on standard output. Here it only reads, writes and asks `work` what comes next.
+// Checks a file of frames: a line of hexadecimal for each on standard input, a report line for each on standard output. Here it only reads, writes and asks `shelfwork` what comes next.
 use libc::STDERR_FILENO;
 use libc::STDIN_FILENO;
 use libc::STDOUT_FILENO;
+use shelfwork::Ask;
+use shelfwork::Done;
+use shelfwork::Work;
 use text::Failure;
-use work::Ask;
-use work::Work;
-
-mod work;
 
 // Whether anything is asked.
 fn goes_on(work: Work) -> bool {
@@ -21,13 +20,12 @@ fn goes_on(work: Work) -> bool {
 }
 
 // One read.
-fn read(work: Work, chunk: &mut [u8], line: &mut [u8], out: &mut [u8]) -> Work {
+fn read(chunk: &mut [u8]) -> Done {
     let got = libc::read(STDIN_FILENO, chunk);
     if got < 0 {
-        return work::fail(work, Failure::Reading, out);
+        return Done::Failed(Failure::Reading);
     }
-    let count = io::count(got, chunk);
-    work::after_read(work, count, chunk, line, out)
+    Done::Read(io::count(got, chunk))
 }
 
 // The front of the output to a file: whether all of it was written.
@@ -38,32 +36,33 @@ fn put(file: i32, out: &[u8], count: usize) -> bool {
     io::write_all(file, &out[..count])
 }
 
-// One turn: what is asked is done.
-fn take_turn(work: Work, chunk: &mut [u8], line: &mut [u8], out: &mut [u8]) -> Work {
-    let ask = work.ask;
+// What is asked is done.
+fn take_turn(ask: Ask, chunk: &mut [u8], out: &[u8]) -> Done {
     match ask {
-        Ask::Read => read(work, chunk, line, out),
+        Ask::Read => read(chunk),
         Ask::Write(count) => {
             if put(STDOUT_FILENO, out, count) {
-                return work::after_write(work, chunk, line, out);
+                return Done::Wrote;
             }
-            work::fail(work, Failure::Writing, out)
+            Done::Failed(Failure::Writing)
         }
         Ask::Say(count) => {
             put(STDERR_FILENO, out, count);
-            work::stop(work)
+            Done::Said
         }
-        Ask::Stop => work,
-        Ask::Refused(_) => work,
+        Ask::Stop => Done::Said,
+        Ask::Refused(_) => Done::Said,
     }
 }
 
 // Turn after turn; their count is more than any input takes.
 fn run(chunk: &mut [u8], line: &mut [u8], out: &mut [u8]) {
-    let mut work = work::begin();
+    let mut work = shelfwork::begin();
     let mut turns = u64::MAX;
     while turns > 0 && goes_on(work) {
-        work = take_turn(work, chunk, line, out);
+        let ask = work.ask;
+        let done = take_turn(ask, chunk, out);
+        work = shelfwork::go_on(work, done, chunk, line, out);
         turns -= 1;
     }
 }

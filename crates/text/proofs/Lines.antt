@@ -9,10 +9,10 @@ use Rattle.verdict.specs.declared.Reason.the-variants.{SmallBuffer}
 use Rattle.verdict.specs.declared.Refusal.{Refusal}
 use Rattle.verdict.specs.declared.Verdict.{Verdict}
 use Rattle.verdict.specs.declared.Verdict.the-variants.{Complete, Unfinished, Refused}
-use Rattle.frame.specs.declared.Kind.{Kind}
-use Rattle.frame.specs.declared.Outcome.{Outcome}
-use Rattle.frame.specs.declared.Outcome.the-variants.{Ok, Cut, Bad, Open}
-use Rattle.frame.specs.declared.Answer.{Answer}
+use Rattle.outcome.specs.declared.Kind.{Kind}
+use Rattle.outcome.specs.declared.Outcome.{Outcome}
+use Rattle.outcome.specs.declared.Outcome.the-variants.{Ok, Cut, Bad, Open}
+use Rattle.outcome.specs.declared.FrameAnswer.{FrameAnswer}
 use Rattle.text.specs.Text.{letterOf, wordOf, firstOf, secondOf, decimal, textOf}
 use Rattle.verdict.specs.Writing.{put, decided}
 use Rattle.text.specs.Writing.{room, WrittenLine}
@@ -24,7 +24,7 @@ word-short (Cut missing) = omega arith
 word-short (Bad refusal) = omega arith
 word-short Open = omega arith
 
-pub length-text : (number : ℕ) (answer : Answer) → length (textOf number answer)
+pub length-text : (number : ℕ) (answer : FrameAnswer) → length (textOf number answer)
     ≡ length (decimal number) + 3 + length (wordOf (answer .outcome)) + 1 + length (decimal (firstOf (answer .outcome))) + 1 + length (decimal (secondOf (answer .outcome))) + 1
 length-text number answer = simp length-append (omega arith)
 
@@ -62,7 +62,7 @@ puts-spaced out out₁ place at n m e b = rw (← e) (omega arith, b .1)
 complete-one : (n m : ℕ) → Complete n ≡ Complete m → n ≡ m
 complete-one n m e = cc
 
-module _ (number : ℕ) (answer : Answer) (out : List ℕ) (place n : ℕ) (l : n ≡ length (textOf number answer)) (k : n ≤ room) where
+module _ (number : ℕ) (answer : FrameAnswer) (out : List ℕ) (place n : ℕ) (l : n ≡ length (textOf number answer)) (k : n ≤ room) where
   pub written-none : length out < place + n → WrittenLine number answer out place (Refused (record { reason = SmallBuffer; place = 0 })) out
   unfolding decided
   written-none h = let t = lt-ltb (length out) (place + length (textOf number answer)) (omega arith) in record { short = omega arith; written = record { said = rw t; left = rw t } }
@@ -72,7 +72,7 @@ module _ (number : ℕ) (answer : Answer) (out : List ℕ) (place n : ℕ) (l : 
   written-all out′ h e = let t = le-ltb (length out) (place + length (textOf number answer)) (omega arith) in record { short = omega arith; written = record { said = rw (t, l); left = rw t e } }
 
 -- where any line has room, this one is written
-module _ (number : ℕ) (answer : Answer) (out : List ℕ) (place : ℕ) (verdict : Verdict) (out′ : List ℕ) (h : place + room ≤ length out) (w : WrittenLine number answer out place verdict out′) where
+module _ (number : ℕ) (answer : FrameAnswer) (out : List ℕ) (place : ℕ) (verdict : Verdict) (out′ : List ℕ) (h : place + room ≤ length out) (w : WrittenLine number answer out place verdict out′) where
   pub line-written : verdict ≡ Complete (length (textOf number answer))
   unfolding decided
   line-written = w .written .said ∙ rw (le-ltb (length out) (place + length (textOf number answer)) (omega (arith, w .short)))

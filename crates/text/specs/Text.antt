@@ -5,12 +5,12 @@ use mathlib.Core.List.{List, [], _∷_, _++_}
 use lib.Dec.{ltb}
 use lib.ListN.{getD}
 use Rattle.verdict.specs.Stated.{Stated, gives, misses, refuses}
-use Rattle.frame.specs.declared.Kind.{Kind}
-use Rattle.frame.specs.declared.Kind.the-variants.{Matrix, Array, Unknown}
-use Rattle.frame.specs.declared.Outcome.{Outcome}
-use Rattle.frame.specs.declared.Outcome.the-variants.{Ok, Cut, Bad, Open}
-use Rattle.frame.specs.declared.Answer.{Answer}
-use Rattle.frame.specs.Stated.{statedOutcome}
+use Rattle.outcome.specs.declared.Kind.{Kind}
+use Rattle.outcome.specs.declared.Kind.the-variants.{Matrix, Array, Unknown}
+use Rattle.outcome.specs.declared.Outcome.{Outcome}
+use Rattle.outcome.specs.declared.Outcome.the-variants.{Ok, Cut, Bad, Open}
+use Rattle.outcome.specs.declared.FrameAnswer.{FrameAnswer}
+use Rattle.outcome.specs.Stated.{statedOutcome}
 use Rattle.text.specs.declared.Failure.{Failure}
 use Rattle.text.specs.declared.Failure.the-variants.{Reading, Writing}
 
@@ -55,14 +55,14 @@ unfoldable pub decimal : ℕ → List ℕ
 decimal n = decimalIn n n
 
 -- a line's number, kind and word
-abbrev pub headOf : ℕ → Answer → List ℕ
+abbrev pub headOf : ℕ → FrameAnswer → List ℕ
 headOf number answer = decimal number ++ (32 ∷ letterOf (answer .kind) ∷ 32 ∷ wordOf (answer .outcome))
 
 -- its two numbers and LF
 abbrev pub tailOf : Outcome → List ℕ
 tailOf outcome = 32 ∷ decimal (firstOf outcome) ++ (32 ∷ decimal (secondOf outcome) ++ (10 ∷ []))
 
-abbrev pub textOf : ℕ → Answer → List ℕ
+abbrev pub textOf : ℕ → FrameAnswer → List ℕ
 textOf number answer = headOf number answer ++ tailOf (answer .outcome)
 
 -- what failed, in a word: reading, writing

@@ -4,7 +4,7 @@ use mathlib.Core.List.{List}
 use lib.ListN.{length}
 use Rattle.verdict.specs.declared.Verdict.{Verdict}
 use Rattle.verdict.specs.Writing.{roomRows, WrittenBy}
-use Rattle.frame.specs.declared.Answer.{Answer}
+use Rattle.outcome.specs.declared.FrameAnswer.{FrameAnswer}
 use Rattle.text.specs.Text.{textOf}
 
 -- no report line is longer
@@ -15,6 +15,6 @@ room = 80
 abbrev pub WrittenText : List ℕ → List ℕ → ℕ → Verdict → List ℕ → Type 0
 WrittenText text out place = WrittenBy (roomRows (place + length text) (length out)) text out place
 
-pub record WrittenLine (number : ℕ) (answer : Answer) (out : List ℕ) (place : ℕ) (verdict : Verdict) (out′ : List ℕ) : Type 0 where
+pub record WrittenLine (number : ℕ) (answer : FrameAnswer) (out : List ℕ) (place : ℕ) (verdict : Verdict) (out′ : List ℕ) : Type 0 where
   pub short : length (textOf number answer) ≤ room
   pub written : WrittenText (textOf number answer) out place verdict out′

@@ -6,9 +6,9 @@ ghost use lib.ListN.{length};
 ghost use Rattle.verdict.specs.Writing.{put};
 ghost use Rattle.text.specs.Text.{letterOf, wordOf, firstOf, secondOf, decimal, headOf, tailOf, textOf, failureOf, failureText};
 ghost use Rattle.text.specs.Writing.{room, WrittenLine, WrittenText};
-use frame::Answer;
-use frame::Kind;
-use frame::Outcome;
+use outcome::FrameAnswer;
+use outcome::Kind;
+use outcome::Outcome;
 use verdict::Reason;
 use verdict::Refusal;
 use verdict::Verdict;
@@ -134,7 +134,7 @@ fn put_number(out: &mut [u8], place: usize, n: u64) -> usize
 }
 
 // How long a report line is.
-fn line_length(number: u64, answer: Answer) -> usize
+fn line_length(number: u64, answer: FrameAnswer) -> usize
     ensures { λ r. ⌜ (r ≡ length (textOf number answer)) × (r ≤ room) ⌝ }
 {
     let outcome = answer.outcome;
@@ -149,7 +149,7 @@ fn line_length(number: u64, answer: Answer) -> usize
 }
 
 // A line's number, kind and word: the place behind them.
-fn put_head(out: &mut [u8], place: usize, number: u64, answer: Answer) -> usize
+fn put_head(out: &mut [u8], place: usize, number: u64, answer: FrameAnswer) -> usize
     requires { ⌜ place + length (headOf number answer) ≤ length (now out) ⌝ }
     ensures { λ r. ⌜ (r ≡ place + length (headOf number answer)) × (now (out .exit) ≡ put (now (out .entry)) place (headOf number answer)) ⌝ }
 {
@@ -173,7 +173,7 @@ fn put_tail(out: &mut [u8], place: usize, outcome: Outcome)
 }
 
 // A report line where it has room.
-fn put_line(number: u64, answer: Answer, out: &mut [u8], place: usize)
+fn put_line(number: u64, answer: FrameAnswer, out: &mut [u8], place: usize)
     requires { ⌜ place + length (textOf number answer) ≤ length (now out) ⌝ }
     ensures { λ _. ⌜ now (out .exit) ≡ put (now (out .entry)) place (textOf number answer) ⌝ }
 {
@@ -183,7 +183,7 @@ fn put_line(number: u64, answer: Answer, out: &mut [u8], place: usize)
 }
 
 // Writes a report line at a place: the count of its bytes, or 13 where it has no room.
-pub fn write_line(number: u64, answer: Answer, out: &mut [u8], place: usize) -> Verdict
+pub fn write_line(number: u64, answer: FrameAnswer, out: &mut [u8], place: usize) -> Verdict
     ensures { λ r. ⌜ WrittenLine number answer (now (out .entry)) place r (now (out .exit)) ⌝ }
 {
     let length = line_length(number, answer);

@@ -7,10 +7,10 @@ use borrow.Fn.Kinds.{Dens, resT, endedOf}
 use denote.Triple.Clauses.{AtExit}
 use denote.Ref.{now}
 use Rattle.verdict.specs.Says.{Bytes}
-use Rattle.frame.specs.declared.Kind.{Kind}
-use Rattle.frame.specs.declared.Outcome.the-variants.{Ok}
-use Rattle.frame.specs.Framed.{FrameOf}
-use Rattle.frame.proofs.Framed.{okay-frames}
+use Rattle.outcome.specs.declared.Kind.{Kind}
+use Rattle.outcome.specs.declared.Outcome.the-variants.{Ok}
+use Rattle.theorems.specs.Framed.{FrameOf}
+use Rattle.theorems.proofs.Framed.{okay-frames}
 use Rattle.frame.proofs.examine.examine.Kinds as examine
 use Rattle.frame.proofs.examine.examine.Reads as examine-reads
 

@@ -1,6 +1,11 @@
 pub mod MatrixVerdicts
 pub mod Said
+pub mod Framed
 pub mod Frames
+pub mod Lines
+pub mod Reporting
+pub mod Progress
+pub mod Running
 pub mod Paper
 pub mod MatrixTrip
 pub mod Stored

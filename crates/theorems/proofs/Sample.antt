@@ -13,13 +13,14 @@ use Rattle.verdict.specs.Rows.{judged}
 use Rattle.word.specs.Digits.{digits}
 use Rattle.matrix.specs.Meaning.{sum}
 use Rattle.matrix.specs.Machine.{enter, runBytes}
-use Rattle.frame.specs.declared.Kind.the-variants.{Matrix, Array, Unknown}
-use Rattle.frame.specs.Frame.{matrixKey, arrayKey, same, kindOf, refusing, answerOf}
+use Rattle.outcome.specs.declared.Kind.the-variants.{Matrix, Array, Unknown}
+use Rattle.frame.specs.Frame.{matrixKey, arrayKey, same, kindOf, answerOf}
+use Rattle.outcome.specs.Refusing.{refusing}
 use Rattle.hex.specs.Hex.{isHex, hexOf}
 use Rattle.text.specs.Text.{decimalIn, decimal}
 use Rattle.report.specs.Line.{lineAnswer}
-use Rattle.report.specs.Report.{reportOf, closed, answers}
-use Rattle.report.proofs.Lines.{Unclosed, lines-report}
+use Rattle.theorems.specs.Report.{reportOf, closed, answers, Unclosed}
+use Rattle.theorems.proofs.Lines.{lines-report}
 use Rattle.theorems.specs.Sample.{line1, line2, line3, line4, said1, said2, said3, said4}
 
 -- ---- the sample

@@ -3,4 +3,8 @@ pub mod Paper
 pub mod Stored
 pub mod ArrayTrip
 pub mod Rows
+pub mod Framed
+pub mod Report
+pub mod Calls
+pub mod Running
 pub mod Sample

@@ -23,6 +23,9 @@ goes-on-requires c κs = search needs
 take-turn-requires : tie.Need-take-turn-requires Inv-loop μ-loop
 take-turn-requires c κs = search needs
 
+go-on-requires : tie.Need-go-on-requires Inv-loop μ-loop
+go-on-requires c κs = search needs
+
 sub-turns : tie.Need-sub-turns Inv-loop μ-loop
 sub-turns c = search needs
 
@@ -66,6 +69,7 @@ run-spec =
     loop-holds
     goes-on-requires
     take-turn-requires
+    go-on-requires
     sub-turns
     loop-less
     loop-again

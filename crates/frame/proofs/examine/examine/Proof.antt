@@ -5,7 +5,7 @@ use borrow.Author.Needs.{needs}
 use borrow.Author.Tests.{lt-ltb, le-ltb}
 use denote.Ref.{now}
 use Rattle.frame.specs.Frame.{longest}
-use Rattle.frame.proofs.Lengths.{to-end}
+use Rattle.frame.proofs.Parts.{to-end}
 use Rattle.frame.proofs.examine.examine.Statement.{statement}
 use Rattle.frame.proofs.examine.examine.Tie as tie
 

@@ -4,8 +4,9 @@ use native.Mathlib.Omega.{arith}
 use borrow.Author.Needs.{needs}
 use borrow.Author.Tests.{eq-eqb, ne-eqb}
 use denote.Ref.{now}
-use Rattle.frame.specs.Frame.{lengthOf}
-use Rattle.frame.proofs.Lengths.{to-end, Few, length-few}
+use Rattle.berlength.specs.Lengths.{lengthOf}
+use Rattle.berlength.proofs.Lengths.{Few, length-few}
+use Rattle.frame.proofs.Parts.{to-end}
 use Rattle.frame.proofs.examine.from_length.Statement.{statement}
 use Rattle.frame.proofs.examine.from_length.Tie as tie
 

@@ -4,8 +4,8 @@ use borrow.Author.Needs.{needs}
 use denote.Ref.{now}
 use lib.ListN.{length}
 use Rattle.verdict.specs.declared.Verdict.{Verdict}
-use Rattle.frame.specs.declared.Kind.the-variants.{Matrix, Array}
-use Rattle.frame.specs.declared.Outcome.{Outcome}
+use Rattle.outcome.specs.declared.Kind.the-variants.{Matrix, Array}
+use Rattle.outcome.specs.declared.Outcome.{Outcome}
 use Rattle.frame.specs.Frame.{outcomeOf}
 use Rattle.frame.proofs.examine.from_value.Statement.{statement}
 use Rattle.frame.proofs.examine.from_value.Tie as tie

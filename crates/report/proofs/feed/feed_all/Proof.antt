@@ -4,7 +4,7 @@ use mathlib.Core.Path.{_≡_, refl}
 use native.Mathlib.Omega.{arith}
 use denote.Ref.{now}
 use lib.ListN.{length, length-replicate}
-use Rattle.report.specs.Feeding.{Sofar}
+use Rattle.report.specs.Passing.{Sofar}
 use Rattle.report.proofs.Chunks.{sofar-none, sofar-all, left, left-less}
 use borrow.Author.Needs.{needs}
 use Rattle.report.proofs.feed.feed_all.Statement.{statement}

@@ -1,0 +1,4 @@
+pub mod Keeping
+pub mod Pieces
+pub mod Stating
+pub mod Only

@@ -1,0 +1,2 @@
+pub mod Stating
+pub mod Only

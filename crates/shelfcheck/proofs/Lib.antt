@@ -1,3 +1,0 @@
-pub mod Working
-pub mod Running
-pub mod Only
