@@ -5,6 +5,8 @@ use borrow.Fn.Kinds.{Dens, resT, endedOf}
 use denote.Triple.Clauses.{AtExit}
 use denote.Ref.{now}
 use Rattle.verdict.proofs.OneAnswer.{OneAnswer}
+use Rattle.word.proofs.bytes.byte_at.Kinds as byte-at
+use Rattle.word.proofs.bytes.byte_at.Reads as byte-at-reads
 use Rattle.word.proofs.bytes.write_at.Kinds as write-at
 use Rattle.word.proofs.bytes.write_at.Reads as write-at-reads
 use Rattle.word.proofs.bytes.read_at.Kinds as read-at
@@ -15,6 +17,9 @@ use Rattle.word.proofs.many.gather.Kinds as gather
 use Rattle.word.proofs.many.gather.Reads as gather-reads
 use Rattle.word.proofs.many.write_all.Kinds as write-all
 use Rattle.word.proofs.many.write_all.Reads as write-all-reads
+
+pub byte-at-only : OneAnswer byte-at.ps byte-at.r byte-at-reads.Post
+byte-at-only κs a x y s t p q = p .0 ∙ sym (q .0)
 
 pub write-at-only : OneAnswer write-at.ps write-at.r write-at-reads.Post
 write-at-only κs a x y s t p q = p .said ∙ sym (q .said)

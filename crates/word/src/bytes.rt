@@ -1,8 +1,8 @@
 // Words in bytes, first byte first: read at a place of the bytes, and written at one.
 ghost use mathlib.Core.Path.{_≡_};
 ghost use mathlib.Core.List.{_++_};
-ghost use Prim.Native.Nat.{_-_, _≤_, _^_};
-ghost use lib.ListN.{length as count, take, drop, replicate};
+ghost use Prim.Native.Nat.{_-_, _≤_, _<_, _^_};
+ghost use lib.ListN.{length as count, take, drop, getD, replicate};
 ghost use lib.Dec.{ltb};
 ghost use Rattle.verdict.specs.Writing.{put};
 ghost use Rattle.word.specs.Digits.{digits, valueOf};
@@ -16,6 +16,17 @@ pub enum Read {
     Word(u64),
     Unfinished(usize),
     Refused(Refusal),
+}
+
+// The byte at a place; 0 where there is none.
+pub fn byte_at(bytes: &[u8], place: usize) -> usize
+    ensures { λ r. ⌜ (r ≡ getD (now (bytes .entry)) place 0) × (r < 256) ⌝ }
+{
+    if place < bytes.len() {
+        bytes[place] as usize
+    } else {
+        0
+    }
 }
 
 // How many bytes stand from a place on.
