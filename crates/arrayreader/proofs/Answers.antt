@@ -20,14 +20,14 @@ use Rattle.number.specs.Octets.{octets}
 use Rattle.arraywalk.specs.declared.Found.{Found}
 use Rattle.arraywalk.specs.declared.Walked.the-variants.{Whole}
 use Rattle.arrayreader.specs.declared.Sizes.{Sizes}
-use Rattle.arrayreader.specs.declared.Answer.the-variants.{Array}
+use Rattle.arrayreader.specs.declared.ArrayRead.the-variants.{Array}
 use Rattle.arrayreader.specs.declared.Addressed.the-variants.{Offset, Refused}
 use Rattle.array.specs.Meaning.{product, most}
 use Rattle.array.specs.Meaning.{Array as Meant}
 use Rattle.array.specs.Decoded.{meaningOf}
 use Rattle.array.specs.Offsets.{inside}
 use Rattle.arraywalk.specs.Walk.{walkedOf}
-use Rattle.arrayreader.specs.Reading.{sizesOf, readFor, readOf, addressIn}
+use Rattle.arrayreader.specs.Reading.{sizesOf, arrayReadFor, arrayReadOf, addressIn}
 use Rattle.arrayreader.specs.Again.{SizesTo, Put, AllPut, noneAgain, againBehind}
 use Rattle.arrayreader.specs.declared.Again.{Again}
 use Rattle.array.proofs.Complete.{complete-meaning}
@@ -98,11 +98,11 @@ again-all bytes dims place again z p h i b =
 
 -- ---- the answers
 
-pub found-read : (bytes : List ℕ) (found : Found) (sizes : Sizes) → Whole found ≡ walkedOf bytes → sizes ≡ sizesOf (meaningOf bytes .sizes) → Array (found .dims) sizes (found .element) (found .start) (found .length) ≡ readOf bytes
+pub found-read : (bytes : List ℕ) (found : Found) (sizes : Sizes) → Whole found ≡ walkedOf bytes → sizes ≡ sizesOf (meaningOf bytes .sizes) → Array (found .dims) sizes (found .element) (found .start) (found .length) ≡ arrayReadOf bytes
 found-read bytes found sizes w s =
     ap (λ (f : Found). Array (f .dims) sizes (f .element) (f .start) (f .length)) (found-is bytes found w)
     ∙ ap (λ (l : Sizes). Array (length (meaningOf bytes .sizes)) l (meaningOf bytes .element) (found .length - product (meaningOf bytes .sizes) * meaningOf bytes .element) (found .length)) s
-    ∙ sym (ap (readFor bytes) (walk-said bytes (Whole found) w))
+    ∙ sym (ap (arrayReadFor bytes) (walk-said bytes (Whole found) w))
 
 -- the answer outside, and inside
 module _ (a : Meant) (indices : List ℕ) where

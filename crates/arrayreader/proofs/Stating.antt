@@ -12,12 +12,12 @@ use Rattle.array.specs.Decoded.{meaningOf}
 use Rattle.array.specs.Offsets.{inside, offset}
 use Rattle.array.specs.Machine.{verdictOf}
 use Rattle.arraywalk.specs.Stated.{lengthIn, startOf}
-use Rattle.arrayreader.specs.declared.Answer.{Answer}
-use Rattle.arrayreader.specs.declared.Answer.the-variants.{Array, Unfinished as AnswerUnfinished, Refused as AnswerRefused}
+use Rattle.arrayreader.specs.declared.ArrayRead.{ArrayRead}
+use Rattle.arrayreader.specs.declared.ArrayRead.the-variants.{Array, Unfinished as ReadUnfinished, Refused as ReadRefused}
 use Rattle.arrayreader.specs.declared.Addressed.{Addressed}
 use Rattle.arrayreader.specs.declared.Addressed.the-variants.{Offset, Unfinished as AddressedUnfinished, Refused as AddressedRefused}
-use Rattle.arrayreader.specs.Reading.{sizesOf, readFor, readOf, addressFor, addressOf}
-use Rattle.arrayreader.specs.Stated.{arrayValues, statedAnswer, statedAddressed}
+use Rattle.arrayreader.specs.Reading.{sizesOf, arrayReadFor, arrayReadOf, addressFor, addressOf}
+use Rattle.arrayreader.specs.Stated.{arrayValues, statedArrayRead, statedAddressed}
 
 -- ---- reading
 
@@ -25,10 +25,10 @@ use Rattle.arrayreader.specs.Stated.{arrayValues, statedAnswer, statedAd
 abbrev pub read-values : List ℕ → Verdict → List ℕ
 read-values bytes verdict = let a = meaningOf bytes in arrayValues (length (a .sizes)) (sizesOf (a .sizes)) (a .element) (startOf a (lengthIn verdict)) (lengthIn verdict)
 
-pub answer-states : (bytes : List ℕ) → statedAnswer (readOf bytes) ≡ statedVerdict (verdictOf bytes) (read-values bytes (verdictOf bytes))
-answer-states bytes = for (verdictOf bytes)
+pub array-read-states : (bytes : List ℕ) → statedArrayRead (arrayReadOf bytes) ≡ statedVerdict (verdictOf bytes) (read-values bytes (verdictOf bytes))
+array-read-states bytes = for (verdictOf bytes)
   where
-    for : (v : Verdict) → statedAnswer (readFor bytes v) ≡ statedVerdict v (read-values bytes v)
+    for : (v : Verdict) → statedArrayRead (arrayReadFor bytes v) ≡ statedVerdict v (read-values bytes v)
     for (Complete n) = refl
     for (Unfinished missing) = refl
     for (Refused refusal) = refl
@@ -51,17 +51,17 @@ module _ (bytes indices : List ℕ) where
 
 -- ---- one answer for what is stated
 
-pub answer-stated : (a b : Answer) → statedAnswer a ≡ statedAnswer b → a ≡ b
-answer-stated (Array d s e t l) (Array d₂ s₂ e₂ t₂ l₂) x =
+pub array-read-stated : (a b : ArrayRead) → statedArrayRead a ≡ statedArrayRead b → a ≡ b
+array-read-stated (Array d s e t l) (Array d₂ s₂ e₂ t₂ l₂) x =
     λ i. Array (stated-at 0 x i) (record { one = stated-at 1 x i; two = stated-at 2 x i; three = stated-at 3 x i; four = stated-at 4 x i; five = stated-at 5 x i; six = stated-at 6 x i; seven = stated-at 7 x i; eight = stated-at 8 x i }) (stated-at 9 x i) (stated-at 10 x i) (stated-at 11 x i)
-answer-stated (Array d s e t l) (AnswerUnfinished m) x = absurd (gives-no-misses x)
-answer-stated (Array d s e t l) (AnswerRefused q) x = absurd (gives-no-refusal x)
-answer-stated (AnswerUnfinished m) (Array d s e t l) x = absurd (gives-no-misses (sym x))
-answer-stated (AnswerUnfinished m) (AnswerUnfinished k) x = ap AnswerUnfinished (misses-one x)
-answer-stated (AnswerUnfinished m) (AnswerRefused q) x = absurd (misses-no-refusal x)
-answer-stated (AnswerRefused r) (Array d s e t l) x = absurd (gives-no-refusal (sym x))
-answer-stated (AnswerRefused r) (AnswerUnfinished k) x = absurd (misses-no-refusal (sym x))
-answer-stated (AnswerRefused r) (AnswerRefused q) x = ap AnswerRefused (refusal-stated r q x)
+array-read-stated (Array d s e t l) (ReadUnfinished m) x = absurd (gives-no-misses x)
+array-read-stated (Array d s e t l) (ReadRefused q) x = absurd (gives-no-refusal x)
+array-read-stated (ReadUnfinished m) (Array d s e t l) x = absurd (gives-no-misses (sym x))
+array-read-stated (ReadUnfinished m) (ReadUnfinished k) x = ap ReadUnfinished (misses-one x)
+array-read-stated (ReadUnfinished m) (ReadRefused q) x = absurd (misses-no-refusal x)
+array-read-stated (ReadRefused r) (Array d s e t l) x = absurd (gives-no-refusal (sym x))
+array-read-stated (ReadRefused r) (ReadUnfinished k) x = absurd (misses-no-refusal (sym x))
+array-read-stated (ReadRefused r) (ReadRefused q) x = ap ReadRefused (refusal-stated r q x)
 
 pub addressed-stated : (a b : Addressed) → statedAddressed a ≡ statedAddressed b → a ≡ b
 addressed-stated (Offset o) (Offset p) x = ap Offset (stated-at 0 x)

@@ -21,14 +21,14 @@ abbrev pub noneAgain : Again
 noneAgain = record { count = 0; sizes = replicate 8 0 }
 
 -- the value of a number that was drawn
-abbrev pub valueOf : Drawn → ℕ
-valueOf (Number value next) = value
-valueOf (Cut value) = 0
-valueOf (Refused refusal) = 0
+abbrev pub drawnValue : Drawn → ℕ
+drawnValue (Number value next) = value
+drawnValue (Cut value) = 0
+drawnValue (Refused refusal) = 0
 
 -- what was drawn is put behind the sizes before it
 abbrev pub againBehind : Again → Drawn → Again
-againBehind again drawn = record { count = again .count + 1; sizes = set (again .sizes) (again .count) (valueOf drawn) }
+againBehind again drawn = record { count = again .count + 1; sizes = set (again .sizes) (again .count) (drawnValue drawn) }
 
 -- the first so many of a list stand among eight, and 0 past them
 pub record Put (l : List ℕ) (again : Again) : Type 0 where

@@ -7,8 +7,8 @@ use Rattle.verdict.specs.declared.Reason.the-variants.{Index}
 use Rattle.verdict.specs.declared.Verdict.{Verdict}
 use Rattle.verdict.specs.declared.Verdict.the-variants.{Complete, Unfinished, Refused}
 use Rattle.arrayreader.specs.declared.Sizes.{Sizes}
-use Rattle.arrayreader.specs.declared.Answer.{Answer}
-use Rattle.arrayreader.specs.declared.Answer.the-variants.{Array, Unfinished as AnswerUnfinished, Refused as AnswerRefused}
+use Rattle.arrayreader.specs.declared.ArrayRead.{ArrayRead}
+use Rattle.arrayreader.specs.declared.ArrayRead.the-variants.{Array, Unfinished as ReadUnfinished, Refused as ReadRefused}
 use Rattle.arrayreader.specs.declared.Addressed.{Addressed}
 use Rattle.arrayreader.specs.declared.Addressed.the-variants.{Offset, Unfinished as AddressedUnfinished, Refused as AddressedRefused}
 use Rattle.array.specs.Meaning.{product}
@@ -32,16 +32,16 @@ sizesOf l =
     }
 
 -- NDim, sizes and E of the meaning that a complete pack's bytes have; its array begins so many bytes before its end, which is its length
-abbrev pub arrayAt : Meant → ℕ → Answer
+abbrev pub arrayAt : Meant → ℕ → ArrayRead
 arrayAt a end = Array (length (a .sizes)) (sizesOf (a .sizes)) (a .element) (end - product (a .sizes) * a .element) end
 
-abbrev pub readFor : List ℕ → Verdict → Answer
-readFor bytes (Complete end) = arrayAt (meaningOf bytes) end
-readFor bytes (Unfinished missing) = AnswerUnfinished missing
-readFor bytes (Refused refusal) = AnswerRefused refusal
+abbrev pub arrayReadFor : List ℕ → Verdict → ArrayRead
+arrayReadFor bytes (Complete end) = arrayAt (meaningOf bytes) end
+arrayReadFor bytes (Unfinished missing) = ReadUnfinished missing
+arrayReadFor bytes (Refused refusal) = ReadRefused refusal
 
-abbrev pub readOf : List ℕ → Answer
-readOf bytes = readFor bytes (verdictOf bytes)
+abbrev pub arrayReadOf : List ℕ → ArrayRead
+arrayReadOf bytes = arrayReadFor bytes (verdictOf bytes)
 
 -- the offset in bytes, or refused 15
 abbrev pub addressIn : Meant → List ℕ → Addressed

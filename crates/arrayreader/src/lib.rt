@@ -3,8 +3,8 @@ ghost use mathlib.Core.Path.{_≡_};
 ghost use Prim.Native.Nat.{_<_};
 ghost use Rattle.array.specs.Machine.{verdictOf};
 ghost use Rattle.array.specs.Decoded.{meaningOf};
-ghost use Rattle.arrayreader.specs.Reading.{sizesOf, readOf, addressIn, addressOf};
-ghost use Rattle.arrayreader.specs.Again.{SizesTo, AllPut, noneAgain, valueOf, againBehind};
+ghost use Rattle.arrayreader.specs.Reading.{sizesOf, arrayReadOf, addressIn, addressOf};
+ghost use Rattle.arrayreader.specs.Again.{SizesTo, AllPut, noneAgain, drawnValue, againBehind};
 use arraywalk::Walked;
 use arraywalk::found_in;
 use number::Drawn;
@@ -33,7 +33,7 @@ pub struct Sizes {
 }
 
 // What reading an array pack answers: NDim, the sizes, E, the place of the array's first byte and the pack's length, or the verdict where it is not complete.
-pub enum Answer {
+pub enum ArrayRead {
     Array {
         dims: usize,
         sizes: Sizes,
@@ -82,7 +82,7 @@ fn none_again() -> Again
 
 // The value of a number that was drawn.
 fn value_of(drawn: Drawn) -> usize
-    ensures { λ r. ⌜ r ≡ valueOf drawn ⌝ }
+    ensures { λ r. ⌜ r ≡ drawnValue drawn ⌝ }
 {
     match drawn {
         Drawn::Number { value, next: _ } => value as usize,
@@ -139,14 +139,14 @@ fn sizes_in(bytes: &[u8], dims: usize) -> Sizes
 }
 
 // NDim, the sizes, E, the start and the length of the array pack that the bytes begin with.
-pub fn read(bytes: &[u8]) -> Answer
-    ensures { λ r. ⌜ r ≡ readOf (now (bytes .entry)) ⌝ }
+pub fn read(bytes: &[u8]) -> ArrayRead
+    ensures { λ r. ⌜ r ≡ arrayReadOf (now (bytes .entry)) ⌝ }
 {
     let walked = found_in(bytes);
     match walked {
         Walked::Whole(found) => {
             let sizes = sizes_in(bytes, found.dims);
-            Answer::Array {
+            ArrayRead::Array {
                 dims: found.dims,
                 sizes,
                 element: found.element,
@@ -154,8 +154,8 @@ pub fn read(bytes: &[u8]) -> Answer
                 length: found.length,
             }
         }
-        Walked::Unfinished(missing) => Answer::Unfinished(missing),
-        Walked::Refused(refusal) => Answer::Refused(refusal),
+        Walked::Unfinished(missing) => ArrayRead::Unfinished(missing),
+        Walked::Refused(refusal) => ArrayRead::Refused(refusal),
     }
 }
 

@@ -8,20 +8,20 @@ use Rattle.matrixwalk.specs.declared.Walked.{Walked}
 use Rattle.matrixwalk.specs.declared.Walked.the-variants.{Whole, Unfinished as WalkedUnfinished, Refused as WalkedRefused}
 use Rattle.matrixwalk.specs.Walk.{walkedFor, walkedOf}
 use Rattle.matrix.specs.Machine.{verdictOf}
-use Rattle.matrixreader.specs.declared.Answer.{Answer}
-use Rattle.matrixreader.specs.declared.Answer.the-variants.{Matrix, Unfinished as AnswerUnfinished, Refused as AnswerRefused}
-use Rattle.matrixreader.specs.Reading.{readFor, readOf}
+use Rattle.matrixreader.specs.declared.MatrixRead.{MatrixRead}
+use Rattle.matrixreader.specs.declared.MatrixRead.the-variants.{Matrix, Unfinished as ReadUnfinished, Refused as ReadRefused}
+use Rattle.matrixreader.specs.Reading.{matrixReadFor, matrixReadOf}
 
 -- what reading answers behind a walk
-abbrev pub readIn : Walked → Answer
+abbrev pub readIn : Walked → MatrixRead
 readIn (Whole found) = Matrix (found .fields) (found .length)
-readIn (WalkedUnfinished missing) = AnswerUnfinished missing
-readIn (WalkedRefused refusal) = AnswerRefused refusal
+readIn (WalkedUnfinished missing) = ReadUnfinished missing
+readIn (WalkedRefused refusal) = ReadRefused refusal
 
-read-back : (bytes : List ℕ) (v : Verdict) → readIn (walkedFor bytes v) ≡ readFor bytes v
+read-back : (bytes : List ℕ) (v : Verdict) → readIn (walkedFor bytes v) ≡ matrixReadFor bytes v
 read-back bytes (Complete n) = refl
 read-back bytes (Unfinished missing) = refl
 read-back bytes (Refused refusal) = refl
 
-pub walk-read : (bytes : List ℕ) (walked : Walked) → walked ≡ walkedOf bytes → readIn walked ≡ readOf bytes
+pub walk-read : (bytes : List ℕ) (walked : Walked) → walked ≡ walkedOf bytes → readIn walked ≡ matrixReadOf bytes
 walk-read bytes walked e = ap readIn e ∙ read-back bytes (verdictOf bytes)

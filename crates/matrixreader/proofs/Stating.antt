@@ -8,8 +8,8 @@ use Rattle.verdict.specs.Stated.{statedVerdict}
 use Rattle.matrix.specs.Spelling.{meaningOf}
 use Rattle.matrix.specs.Listed.{fieldNumbers}
 use Rattle.matrix.specs.Machine.{verdictOf}
-use Rattle.matrixreader.specs.Reading.{readFor, readOf}
-use Rattle.matrixreader.specs.Stated.{statedAnswer}
+use Rattle.matrixreader.specs.Reading.{matrixReadFor, matrixReadOf}
+use Rattle.matrixreader.specs.Stated.{statedMatrixRead}
 
 -- the numbers of a complete pack
 abbrev pub read-values : List ℕ → Verdict → List ℕ
@@ -17,10 +17,10 @@ read-values bytes (Complete length) = fieldNumbers (meaningOf bytes .fields) ++ 
 read-values bytes (Unfinished missing) = []
 read-values bytes (Refused refusal) = []
 
-pub answer-states : (bytes : List ℕ) → statedAnswer (readOf bytes) ≡ statedVerdict (verdictOf bytes) (read-values bytes (verdictOf bytes))
-answer-states bytes = by (verdictOf bytes)
+pub matrix-read-states : (bytes : List ℕ) → statedMatrixRead (matrixReadOf bytes) ≡ statedVerdict (verdictOf bytes) (read-values bytes (verdictOf bytes))
+matrix-read-states bytes = by (verdictOf bytes)
   where
-    by : (v : Verdict) → statedAnswer (readFor bytes v) ≡ statedVerdict v (read-values bytes v)
+    by : (v : Verdict) → statedMatrixRead (matrixReadFor bytes v) ≡ statedVerdict v (read-values bytes v)
     by (Complete length) = refl
     by (Unfinished missing) = refl
     by (Refused refusal) = refl

@@ -2,11 +2,11 @@
 use mathlib.Core.List.{[], _∷_, _++_}
 use Rattle.verdict.specs.Stated.{Stated, gives, misses, statedRefusal}
 use Rattle.matrix.specs.Listed.{fieldNumbers}
-use Rattle.matrixreader.specs.declared.Answer.{Answer}
-use Rattle.matrixreader.specs.declared.Answer.the-variants.{Matrix, Unfinished, Refused}
+use Rattle.matrixreader.specs.declared.MatrixRead.{MatrixRead}
+use Rattle.matrixreader.specs.declared.MatrixRead.the-variants.{Matrix, Unfinished, Refused}
 
 -- N and the five control fields, with the length
-abbrev pub statedAnswer : Answer → Stated
-statedAnswer (Matrix fields length) = gives (fieldNumbers fields ++ (length ∷ []))
-statedAnswer (Unfinished missing) = misses missing
-statedAnswer (Refused refusal) = statedRefusal refusal
+abbrev pub statedMatrixRead : MatrixRead → Stated
+statedMatrixRead (Matrix fields length) = gives (fieldNumbers fields ++ (length ∷ []))
+statedMatrixRead (Unfinished missing) = misses missing
+statedMatrixRead (Refused refusal) = statedRefusal refusal

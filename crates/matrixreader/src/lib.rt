@@ -1,7 +1,7 @@
 // Reading matrix packs: the verdict on a string of bytes, and the fields of a pack.
 ghost use mathlib.Core.Path.{_≡_};
 ghost use Rattle.matrix.specs.Machine.{verdictOf};
-ghost use Rattle.matrixreader.specs.Reading.{readOf};
+ghost use Rattle.matrixreader.specs.Reading.{matrixReadOf};
 use matrix::Fields;
 use matrixwalk::Walked;
 use matrixwalk::found_in;
@@ -9,7 +9,7 @@ use verdict::Refusal;
 use verdict::Verdict;
 
 // What reading a matrix pack answers: its fields and its length, or the verdict where it is not complete.
-pub enum Answer {
+pub enum MatrixRead {
     Matrix { fields: Fields, length: usize },
     Unfinished(usize),
     Refused(Refusal),
@@ -28,19 +28,19 @@ pub fn verdict(bytes: &[u8]) -> Verdict
 }
 
 // The size and the control fields of the matrix pack that the bytes begin with.
-pub fn read(bytes: &[u8]) -> Answer
-    ensures { λ r. ⌜ r ≡ readOf (now (bytes .entry)) ⌝ }
+pub fn read(bytes: &[u8]) -> MatrixRead
+    ensures { λ r. ⌜ r ≡ matrixReadOf (now (bytes .entry)) ⌝ }
 {
     let walked = found_in(bytes);
     match walked {
         Walked::Whole(found) => {
             let fields = found.fields;
-            Answer::Matrix {
+            MatrixRead::Matrix {
                 fields,
                 length: found.length,
             }
         }
-        Walked::Unfinished(missing) => Answer::Unfinished(missing),
-        Walked::Refused(refusal) => Answer::Refused(refusal),
+        Walked::Unfinished(missing) => MatrixRead::Unfinished(missing),
+        Walked::Refused(refusal) => MatrixRead::Refused(refusal),
     }
 }

@@ -28,8 +28,8 @@ use Rattle.array.proofs.Decoding.{meaning-back}
 use Rattle.array.proofs.Complete.{complete-meaning, complete-count}
 use Rattle.array.proofs.Offsets.{offset-below}
 use Rattle.arrayreader.specs.declared.Sizes.{Sizes}
-use Rattle.arrayreader.specs.declared.Answer.the-variants.{Array}
-use Rattle.arrayreader.specs.Reading.{sizesOf, readFor, readOf, addressIn, addressFor, addressOf}
+use Rattle.arrayreader.specs.declared.ArrayRead.the-variants.{Array}
+use Rattle.arrayreader.specs.Reading.{sizesOf, arrayReadFor, arrayReadOf, addressIn, addressFor, addressOf}
 use Rattle.theorems.specs.ArrayTrip.{sizesListed, arrayRead, ReadAs, ReadSays, WrittenAgain, ReadAgain, AddressedAs}
 use Rattle.arrayreader.proofs.read.Kinds as read
 use Rattle.arrayreader.proofs.read.Reads as read-reads
@@ -64,7 +64,7 @@ body-last a =
     (omega arith, ap (drop (length (bytesOf a) - length (a .body))) parts ∙ drop-at head (a .body) (length (bytesOf a) - length (a .body)) (omega arith))
 
 module _ (bytes : List ℕ) (b : Bytes bytes) where
-  complete-read : (n : ℕ) → verdictOf bytes ≡ Complete n → ReadSays bytes (readFor bytes (Complete n))
+  complete-read : (n : ℕ) → verdictOf bytes ≡ Complete n → ReadSays bytes (arrayReadFor bytes (Complete n))
   complete-read n e =
       let a = meaningOf bytes in
       let m = complete-meaning bytes b n e in
@@ -84,7 +84,7 @@ module _ (bytes : List ℕ) (b : Bytes bytes) where
         spelled = ap bytesOf same ∙ m .1;
       }
 
-  verdict-read : (v : Verdict) → verdictOf bytes ≡ v → ReadSays bytes (readFor bytes v)
+  verdict-read : (v : Verdict) → verdictOf bytes ≡ v → ReadSays bytes (arrayReadFor bytes v)
   verdict-read (Complete n) e = complete-read n e
   verdict-read (Unfinished missing) e = subst (Says ArrayPack Why bytes) e (array-said bytes b)
   verdict-read (Refused refusal) e = subst (Says ArrayPack Why bytes) e (array-said bytes b)
@@ -159,12 +159,12 @@ module _ (array : Meant) (n : ℕ) (bytes : List ℕ) (x : Begins array n bytes)
       let front : take n bytes ≡ bytesOf array = ap (take n) (x .parts) ∙ take-at (bytesOf array) (drop n bytes) n (sym (x .counted)) in
       ap₂ drop (ap (λ (k : ℕ). k - length (array .body)) (x .counted)) front ∙ body-last array .1
 
-  again-read : ReadAgain array n bytes (readOf bytes)
+  again-read : ReadAgain array n bytes (arrayReadOf bytes)
   again-read =
       record {
         listed = sizesOf (array .sizes);
         answered =
-            ap (readFor bytes) again-complete
+            ap (arrayReadFor bytes) again-complete
             ∙ ap (λ (m : Meant). Array (length (m .sizes)) (sizesOf (m .sizes)) (m .element) (n - product (m .sizes) * m .element) n) again-means
             ∙ ap (λ (k : ℕ). Array (length (array .sizes)) (sizesOf (array .sizes)) (array .element) (n - k) n) (sym (x .lawful .body-count));
         same-sizes = listed-back (array .sizes) (x .lawful .few-sizes);

@@ -47,27 +47,30 @@ use Rattle.theorems.proofs.MatrixTrip.{writer-accepts as matrix-accepts
 use Rattle.arraywriter.specs.Given.{meaningGiven as arrayGiven}
 use Rattle.arraywriter.proofs.RoundTrip.{writer-accepts as array-accepts}
 use Rattle.theorems.specs.Paper.{PaperBy}
-use Rattle.gateway.specs.Answers.{PackedBy, addressed, addressedOf}
-use Rattle.gateway.specs.Listing.{FieldsBy, NumbersBy}
-use Rattle.gateway.specs.Writing.{fieldsGiven, numberRows, MatrixWritten, ArrayWritten}
-use Rattle.gateway.proofs.matrix_verdict.Kinds as matrix-verdict
-use Rattle.gateway.proofs.matrix_verdict.Reads as matrix-verdict-reads
-use Rattle.gateway.proofs.array_verdict.Kinds as array-verdict
-use Rattle.gateway.proofs.array_verdict.Reads as array-verdict-reads
-use Rattle.gateway.proofs.matrix_fields.Kinds as matrix-fields
-use Rattle.gateway.proofs.matrix_fields.Reads as matrix-fields-reads
-use Rattle.gateway.proofs.matrix_unpack.Kinds as matrix-unpack
-use Rattle.gateway.proofs.matrix_unpack.Reads as matrix-unpack-reads
-use Rattle.gateway.proofs.matrix_expand.Kinds as matrix-expand
-use Rattle.gateway.proofs.matrix_expand.Reads as matrix-expand-reads
-use Rattle.gateway.proofs.matrix_write.Kinds as matrix-write
-use Rattle.gateway.proofs.matrix_write.Reads as matrix-write-reads
-use Rattle.gateway.proofs.array_fields.Kinds as array-fields
-use Rattle.gateway.proofs.array_fields.Reads as array-fields-reads
-use Rattle.gateway.proofs.array_address.Kinds as array-address
-use Rattle.gateway.proofs.array_address.Reads as array-address-reads
-use Rattle.gateway.proofs.array_write.Kinds as array-write
-use Rattle.gateway.proofs.array_write.Reads as array-write-reads
+use Rattle.listing.specs.Packed.{PackedBy}
+use Rattle.cmatrix.specs.Fields.{FieldsBy}
+use Rattle.cmatrix.specs.Writing.{fieldsGiven, numberRows, MatrixWritten}
+use Rattle.carray.specs.Addressed.{addressed, addressedOf}
+use Rattle.carray.specs.Numbers.{NumbersBy}
+use Rattle.carray.specs.Writing.{ArrayWritten}
+use Rattle.cmatrix.proofs.matrix_verdict.Kinds as matrix-verdict
+use Rattle.cmatrix.proofs.matrix_verdict.Reads as matrix-verdict-reads
+use Rattle.carray.proofs.array_verdict.Kinds as array-verdict
+use Rattle.carray.proofs.array_verdict.Reads as array-verdict-reads
+use Rattle.cmatrix.proofs.matrix_fields.Kinds as matrix-fields
+use Rattle.cmatrix.proofs.matrix_fields.Reads as matrix-fields-reads
+use Rattle.cmatrix.proofs.matrix_unpack.Kinds as matrix-unpack
+use Rattle.cmatrix.proofs.matrix_unpack.Reads as matrix-unpack-reads
+use Rattle.cmatrix.proofs.matrix_expand.Kinds as matrix-expand
+use Rattle.cmatrix.proofs.matrix_expand.Reads as matrix-expand-reads
+use Rattle.cmatrix.proofs.matrix_write.Kinds as matrix-write
+use Rattle.cmatrix.proofs.matrix_write.Reads as matrix-write-reads
+use Rattle.carray.proofs.array_fields.Kinds as array-fields
+use Rattle.carray.proofs.array_fields.Reads as array-fields-reads
+use Rattle.carray.proofs.array_address.Kinds as array-address
+use Rattle.carray.proofs.array_address.Reads as array-address-reads
+use Rattle.carray.proofs.array_write.Kinds as array-write
+use Rattle.carray.proofs.array_write.Reads as array-write-reads
 
 paper-by : (May : Verdict → Type 0) (number : ℕ) → PackedBy May number → ((answer : Verdict) → May answer → Occurs answer) → PaperBy May number
 paper-by May number p occurs =

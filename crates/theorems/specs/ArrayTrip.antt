@@ -15,8 +15,8 @@ use Rattle.array.specs.Decoded.{meaningOf}
 use Rattle.array.specs.Offsets.{inside, offset}
 use Rattle.array.specs.Table.{Why}
 use Rattle.arrayreader.specs.declared.Sizes.{Sizes}
-use Rattle.arrayreader.specs.declared.Answer.{Answer}
-use Rattle.arrayreader.specs.declared.Answer.the-variants.{Array, Unfinished as AnswerUnfinished, Refused as AnswerRefused}
+use Rattle.arrayreader.specs.declared.ArrayRead.{ArrayRead}
+use Rattle.arrayreader.specs.declared.ArrayRead.the-variants.{Array, Unfinished as ReadUnfinished, Refused as ReadRefused}
 use Rattle.arrayreader.specs.declared.Addressed.{Addressed}
 use Rattle.arrayreader.specs.declared.Addressed.the-variants.{Offset, Refused as AddressedRefused}
 
@@ -37,10 +37,10 @@ pub record ReadAs (bytes : List ℕ) (array : Meant) (start end : ℕ) : Type 0 
   pub spelled : bytesOf array ≡ take end bytes
 
 -- what each answer of `read` says of the bytes
-abbrev pub ReadSays : List ℕ → Answer → Type 0
+abbrev pub ReadSays : List ℕ → ArrayRead → Type 0
 ReadSays bytes (Array dims sizes element start end) = ReadAs bytes (arrayRead bytes dims sizes element start end) start end
-ReadSays bytes (AnswerUnfinished missing) = Says ArrayPack Why bytes (Unfinished missing)
-ReadSays bytes (AnswerRefused refusal) = Says ArrayPack Why bytes (Refused refusal)
+ReadSays bytes (ReadUnfinished missing) = Says ArrayPack Why bytes (Unfinished missing)
+ReadSays bytes (ReadRefused refusal) = Says ArrayPack Why bytes (Refused refusal)
 
 -- the pack's own bytes stand at the front of the buffer, and what was behind them stays
 pub record WrittenAgain (bytes : List ℕ) (end : ℕ) (out : List ℕ) (answer : Verdict) (out′ : List ℕ) : Type 0 where
@@ -48,7 +48,7 @@ pub record WrittenAgain (bytes : List ℕ) (end : ℕ) (out : List ℕ) (answer 
   pub left : out′ ≡ take end bytes ++ drop end out
 
 -- the answer of `read` on bytes that begin with the so many bytes of an array: its sizes and E, and the array, which is the last of them, from the start to the end
-pub record ReadAgain (array : Meant) (count : ℕ) (bytes : List ℕ) (answer : Answer) : Type 0 where
+pub record ReadAgain (array : Meant) (count : ℕ) (bytes : List ℕ) (answer : ArrayRead) : Type 0 where
   pub listed : Sizes
   pub answered : answer ≡ Array (length (array .sizes)) listed (array .element) (count - length (array .body)) count
   pub same-sizes : sizesListed (length (array .sizes)) listed ≡ array .sizes

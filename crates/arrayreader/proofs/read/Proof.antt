@@ -4,7 +4,7 @@ use denote.Ref.{now}
 use Rattle.arraywalk.specs.declared.Walked.{Walked}
 use Rattle.arraywalk.specs.Walk.{walkedOf}
 use Rattle.arraywalk.proofs.Finding.{walk-said}
-use Rattle.arrayreader.specs.Reading.{readFor}
+use Rattle.arrayreader.specs.Reading.{arrayReadFor}
 use Rattle.arrayreader.proofs.Answers.{sizes-found, found-read}
 use borrow.Author.Needs.{needs}
 use Rattle.arrayreader.proofs.read.Statement.{statement}
@@ -40,11 +40,11 @@ returns c =
 
 returns-2 : tie.Need-returns-2
 returns-2 c = let p = c .before .before .before in let s = now (p .before .before .args .bytes) in
-    sym (ap (readFor s) (walk-said s _ (walked-is p _ (c .before .walked2 .given .1))))
+    sym (ap (arrayReadFor s) (walk-said s _ (walked-is p _ (c .before .walked2 .given .1))))
 
 returns-3 : tie.Need-returns-3
 returns-3 c = let p = c .before .before .before in let s = now (p .before .before .args .bytes) in
-    sym (ap (readFor s) (walk-said s _ (walked-is p _ (c .before .walked3 .given .1))))
+    sym (ap (arrayReadFor s) (walk-said s _ (walked-is p _ (c .before .walked3 .given .1))))
 
 pub read-spec : {M : Type 1} → statement M
 read-spec =

@@ -1,0 +1,4 @@
+pub mod Numbers
+pub mod Addressed
+pub mod Writing
+pub mod Inside

@@ -1,0 +1,4 @@
+pub mod SixNumbers
+pub mod Writing
+pub mod Listing
+pub mod Only

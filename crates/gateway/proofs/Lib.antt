@@ -1,3 +1,0 @@
-pub mod SixNumbers
-pub mod Listed
-pub mod Only
