@@ -11,7 +11,7 @@ use Rattle.verdict.specs.declared.Reason.the-variants.{Disagree}
 use Rattle.verdict.specs.Rows.{Blamed}
 use Rattle.verdict.proofs.Judging.{Kept}
 use Rattle.matrix.specs.declared.Fields.{Fields}
-use Rattle.matrix.specs.Spelling.{bit}
+use Rattle.matrix.specs.Header.{bit}
 use Rattle.matrix.specs.Listed.{fieldNumbers}
 use Rattle.cmatrix.specs.Writing.{fieldsGiven, fieldsFit, numberRows}
 

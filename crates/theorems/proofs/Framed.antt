@@ -18,7 +18,7 @@ use Rattle.word.proofs.Digits.{below-drop}
 use Rattle.matrix.specs.Pack.{MatrixPack}
 use Rattle.matrix.specs.Table.{Why as MatrixWhy}
 use Rattle.matrix.specs.Machine.{verdictOf as matrixVerdict}
-use Rattle.matrix.proofs.Verdicts.{matrix-said, matrix-complete}
+use Rattle.theorems.proofs.MatrixVerdicts.{matrix-said, matrix-complete}
 use Rattle.matrix.proofs.Lengths.{matrix-short}
 use Rattle.array.specs.Spelling.{ArrayPack}
 use Rattle.array.specs.Table.{Why as ArrayWhy}
