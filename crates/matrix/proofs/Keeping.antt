@@ -17,7 +17,8 @@ use Rattle.matrix.specs.declared.Fields.{Fields}
 use Rattle.verdict.proofs.Cases.{by-test, either, and-right}
 use Rattle.word.specs.Digits.{digits}
 use Rattle.rule.specs.declared.rules.Rule.{Rule}
-use Rattle.rule.specs.Rules.{cleared, Sound}
+use Rattle.rule.specs.Rules.{cleared}
+use Rattle.rule.specs.Sound.{Sound}
 use Rattle.matrix.specs.Meaning.{pairs, sum, LawfulFirst, LawfulFields}
 use Rattle.matrix.specs.Header.{bit, vectorBytes, first, second}
 use Rattle.matrix.specs.Table.{sizeRows, control1Rows, control2Rows, vectorRows, wordRows}

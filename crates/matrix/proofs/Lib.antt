@@ -4,7 +4,7 @@ pub mod BitVector
 pub mod FieldRules
 pub mod ControlBytes
 pub mod Header
-pub mod Begun
+pub mod Fronts
 pub mod WordRuns
 pub mod Keeping
 pub mod Accepting

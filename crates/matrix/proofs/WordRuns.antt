@@ -10,7 +10,8 @@ use lib.ListN.{length, getD, drop, replicate, length-drop, length-replicate}
 use lib.Seq.{getD-drop}
 use Rattle.verdict.proofs.Judging.{Reaches}
 use Rattle.rule.specs.declared.rules.Rule.{Rule}
-use Rattle.rule.specs.Rules.{Keeps, Sound, deviationRule, coefficientRule}
+use Rattle.rule.specs.Rules.{Keeps, deviationRule, coefficientRule}
+use Rattle.rule.specs.Sound.{Sound}
 use Rattle.word.specs.Digits.{digits}
 use Rattle.rule.proofs.Certain.{keeps-fits, deviation-sound, coefficient-sound, deviation-length, coefficient-length}
 use Rattle.matrix.specs.declared.Fields.{Fields}
@@ -18,7 +19,7 @@ use Rattle.matrix.specs.Meaning.{sum, nought, LawfulFields}
 use Rattle.matrix.specs.Spelling.{spelled}
 use Rattle.matrix.specs.Machine.{step, Run, enter, wordsOf}
 use Rattle.matrix.proofs.BitVector.{sum-same}
-use Rattle.matrix.proofs.Begun.{run-accepted}
+use Rattle.matrix.proofs.Fronts.{run-accepted}
 
 -- bytes that begin with words of a rule, those whose mark is 1, where Q holds of those behind them; the other words are this nought
 record Marked (rule : Rule) (none : ℕ) (marks : List ℕ) (Q : List ℕ → Type 0) (w : List ℕ) : Type 0 where

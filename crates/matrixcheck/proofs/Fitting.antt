@@ -19,7 +19,7 @@ use Rattle.matrix.specs.declared.Fields.{Fields}
 use Rattle.matrix.specs.Meaning.{sum}
 use Rattle.matrix.proofs.BitVector.{sum-same}
 use Rattle.matrixcheck.specs.declared.check.Marked.the-variants.{Fit, Unfit}
-use Rattle.matrixcheck.specs.Checking.{markedOf}
+use Rattle.matrixcheck.specs.Marking.{markedOf}
 use Rattle.matrixcheck.specs.Given.{deviationMarks, markFits, marksFit, sentFit}
 use Rattle.matrixcheck.proofs.Entries.{next-entry, marks-fitting, mark-between}
 

@@ -6,16 +6,9 @@ use lib.ListN.{length}
 use Rattle.verdict.specs.declared.Reason.{Reason}
 use Rattle.verdict.specs.Rows.{Row}
 use Rattle.matrix.specs.declared.Fields.{Fields}
-use Rattle.matrix.specs.Meaning.{pairs, sum}
-use Rattle.matrixcheck.specs.declared.check.Marked.{Marked}
-use Rattle.matrixcheck.specs.declared.check.Marked.the-variants.{Fit, Unfit}
+use Rattle.matrix.specs.Meaning.{pairs}
 use Rattle.matrixcheck.specs.declared.check.Checked.{Checked}
 use Rattle.matrixcheck.specs.declared.check.Checked.the-variants.{Sent, Refused}
-use Rattle.matrixcheck.specs.Given.{marksFit}
-
--- how many marks are 1, where all fit
-abbrev pub markedOf : Fields → List ℕ → Marked
-markedOf f marks = cond (marksFit f marks) (Fit (sum marks)) Unfit
 
 -- a writer's refusal: its place is 0
 abbrev pub refusedFor : Reason → Checked

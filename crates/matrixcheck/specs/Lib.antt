@@ -1,3 +1,4 @@
 pub mod Given
 pub mod Checking
+pub mod Marking
 pub mod Stated

@@ -18,7 +18,8 @@ use Rattle.verdict.proofs.Cases.{by-test, either}
 use Rattle.verdict.specs.Machine.{Move, led}
 use Rattle.verdict.proofs.Reaching.{reach-cut, reach-step}
 use Rattle.rule.specs.declared.rules.Rule.{Rule}
-use Rattle.rule.specs.Rules.{Sound, Keeps, cleared}
+use Rattle.rule.specs.Rules.{Keeps, cleared}
+use Rattle.rule.specs.Sound.{Sound}
 use Rattle.rule.proofs.Certain.{sign-whole, cleared-first}
 use Rattle.word.specs.Bytes.{wordAt}
 use Rattle.word.proofs.Digits.{Below, bytes-bits, word-below, word-front}
@@ -26,7 +27,7 @@ use Rattle.matrix.specs.Machine.{State, word, Run, enter, enterWord, inWord, re
 use Rattle.matrix.specs.Reached.{verdictAt, verdictBehind}
 use Rattle.matrixwalk.specs.declared.words.Passed.the-variants.{Unfinished as PassedUnfinished, Refused as PassedRefused}
 use Rattle.matrixwalk.specs.Parts.{maskOf, overAt, wordOf, runOf, LookedAt, Judges, Checks, PassedTo, PassedFrom}
-use Rattle.matrix.proofs.Begun.{cleared-none, run-empty}
+use Rattle.matrix.proofs.Fronts.{cleared-none, run-empty}
 use Rattle.matrix.proofs.Keeping.{first-sign}
 
 -- ---- one byte of a word

@@ -12,7 +12,8 @@ use Rattle.rule.specs.declared.rules.Rule.{Rule}
 use Rattle.rule.specs.declared.rules.Ruled.{Ruled}
 use Rattle.rule.specs.declared.rules.Ruled.the-variants.{By, Refused as RuledRefused}
 use Rattle.rule.specs.declared.rules.Form.{Form}
-use Rattle.rule.specs.Rules.{Sound, coefficientRule, ruleOf}
+use Rattle.rule.specs.Rules.{coefficientRule, ruleOf}
+use Rattle.rule.specs.Sound.{Sound}
 use Rattle.matrix.specs.declared.Fields.{Fields}
 use Rattle.matrixwalk.specs.declared.words.Passed.{Passed}
 use Rattle.matrixwalk.specs.declared.words.Passed.the-variants.{To, Unfinished as PassedUnfinished, Refused as PassedRefused}

@@ -15,7 +15,8 @@ use lib.Seq.{take-add, take-length}
 use Rattle.verdict.proofs.Cases.{by-test, or-left}
 use Rattle.rule.specs.declared.rules.Rule.{Rule}
 use Rattle.word.specs.Digits.{valueOn, valueOf}
-use Rattle.rule.specs.Rules.{cleared, Keeps, admitted, Breaks, BreaksAt, Sound, Format, half, single, double, mappedRule, deviations, coefficients, allowed, ieeeRule, deviationRule, coefficientRule}
+use Rattle.rule.specs.Rules.{cleared, Keeps, admitted, Breaks, BreaksAt, Format, half, single, double, mappedRule, deviations, coefficients, allowed, ieeeRule, deviationRule, coefficientRule}
+use Rattle.rule.specs.Sound.{Sound}
 use Rattle.word.proofs.Digits.{Below, below-take, below-drop, valueOn-append, valueOn-split, value-zeros, value-below, value-spread, value-spread-below}
 
 -- ---- the rules of document 01 are sound

@@ -1,3 +1,4 @@
 pub mod Rules
+pub mod Sound
 pub mod Scaled
 pub mod Stated

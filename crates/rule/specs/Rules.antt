@@ -1,8 +1,6 @@
 -- The value rules of document 01, on words of any length, and the first byte that makes a broken rule certain.
 use Prim.Native.Nat.{ℕ, suc, _-_, _*_, _/_, _^_, _≤_, _<_}
-use mathlib.Core.Path.{_≡_}
 use mathlib.Core.Bool.{Bool, _||_, cond}
-use mathlib.Core.Logic.{_⊎_}
 use mathlib.Core.List.{List}
 use lib.ListN.{length, take}
 use lib.Dec.{leb, eqb}
@@ -34,12 +32,6 @@ pub record BreaksAt (rule : Rule) (word : List ℕ) (place : ℕ) : Type 0 where
   pub within : place < length word
   pub broken : Breaks rule (take (suc place) word)
   pub before : Breaks rule (take place word) → ⊥
-
--- a rule of words of at most eight bytes: the sign is none or their top bit, and what it leaves is enough for the greatest
-pub record Sound (rule : Rule) : Type 0 where
-  pub short : rule .length ≤ 8
-  pub signed : (rule .sign ≡ 0) ⊎ ((rule .sign * 2 ≡ 256 ^ rule .length) × (rule .greatest < rule .sign))
-  pub room : rule .greatest < 256 ^ rule .length
 
 -- mapped words of L bytes: at most 2^(8L − 1), and in 0 bytes only the word 0
 abbrev pub mappedRule : ℕ → Rule

@@ -2,7 +2,8 @@
 use mathlib.Core.Path.{_≡_, _∙_, sym, ap, subst}
 use native.Mathlib.Omega.{arith}
 use denote.Ref.{now}
-use Rattle.rule.specs.Rules.{Sound, coefficientRule}
+use Rattle.rule.specs.Rules.{coefficientRule}
+use Rattle.rule.specs.Sound.{Sound}
 use Rattle.rule.specs.declared.rules.Rule.{Rule}
 use Rattle.rule.proofs.Certain.{coefficient-sound, coefficient-length}
 use Rattle.matrixwalk.specs.Parts.{ruleIn, PassedFrom}

@@ -3,7 +3,8 @@ use Prim.Native.Nat.{_*_}
 use mathlib.Core.Path.{_≡_, _∙_, sym, ap, subst}
 use native.Mathlib.Omega.{arith}
 use denote.Ref.{now}
-use Rattle.rule.specs.Rules.{Sound, deviationRule}
+use Rattle.rule.specs.Rules.{deviationRule}
+use Rattle.rule.specs.Sound.{Sound}
 use Rattle.rule.specs.declared.rules.Rule.{Rule}
 use Rattle.rule.proofs.Certain.{deviation-sound, deviation-length}
 use Rattle.matrixwalk.specs.Parts.{ruleIn, PassedFrom}

@@ -7,7 +7,8 @@ use lib.ListN.{take}
 use Rattle.matrix.specs.Meaning.{pairs}
 use Rattle.matrix.proofs.Pairs.{pairs-most}
 use Rattle.counts.proofs.Counts.{pairs-counted}
-use Rattle.matrixcheck.specs.Checking.{markedOf, Enough}
+use Rattle.matrixcheck.specs.Checking.{Enough}
+use Rattle.matrixcheck.specs.Marking.{markedOf}
 use Rattle.matrixcheck.proofs.Fitting.{fit-marked, unfit-marked}
 use Rattle.matrixcheck.proofs.Checking.{few-deviations, few-coefficients, few-marks, marks-broken, lists-on}
 use borrow.Author.Needs.{needs}

@@ -3,7 +3,7 @@ use Prim.Native.Nat.{ℕ, _-_, _/_, _^_, _≤_, _<_}
 use mathlib.Core.Path.{_≡_}
 use native.Mathlib.Omega.{arith}
 use Rattle.rule.specs.declared.rules.Rule.{Rule}
-use Rattle.rule.specs.Rules.{Sound}
+use Rattle.rule.specs.Sound.{Sound}
 use denote.Ref.{now}
 use lib.ListN.{getD}
 use Rattle.matrixwalk.specs.Parts.{Judges}

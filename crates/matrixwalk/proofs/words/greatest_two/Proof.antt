@@ -6,7 +6,7 @@ use denote.Ref.{now}
 use lib.Bits.{bitAnd}
 use lib.ListN.{getD}
 use Rattle.rule.specs.declared.rules.Rule.{Rule}
-use Rattle.rule.specs.Rules.{Sound}
+use Rattle.rule.specs.Sound.{Sound}
 use Rattle.matrixwalk.specs.Parts.{maskOf, Judges}
 use Rattle.matrixwalk.proofs.Passing.{two-limit, two-below, Carries, carries-start, carries-next, carries-all}
 use borrow.Author.Needs.{needs}

@@ -13,7 +13,8 @@ use Rattle.verdict.specs.Rows.{judged}
 use Rattle.verdict.proofs.Judging.{Reaches, kept-reaches, reaches-kept}
 use Rattle.verdict.specs.Machine.{Move, Accepts}
 use Rattle.rule.specs.declared.rules.Rule.{Rule}
-use Rattle.rule.specs.Rules.{cleared, Keeps, Sound}
+use Rattle.rule.specs.Rules.{cleared, Keeps}
+use Rattle.rule.specs.Sound.{Sound}
 use Rattle.word.specs.Digits.{digits}
 use Rattle.word.proofs.Digits.{digits-front, length-digits}
 use Rattle.rule.proofs.Certain.{cleared-le, cleared-back, cleared-scaled, sign-whole}
