@@ -1,8 +1,8 @@
 // The rules that words keep: of the IEEE formats, one type per width, and of mapped words of any length.
 ghost use mathlib.Core.Path.{_≡_};
 ghost use mathlib.Core.Bool.{true, false, cond};
-ghost use lib.Dec.{eqb};
-ghost use Rattle.rule.specs.Rules.{admitted, mappedRule, half, single, double, deviations, coefficients, ieeeRule, deviationRule, coefficientRule, ruleOf, ruledBy};
+ghost use lib.Dec.{eqb, leb};
+ghost use Rattle.rule.specs.Rules.{cleared, admitted, mappedRule, half, single, double, deviations, coefficients, ieeeRule, deviationRule, coefficientRule, ruleOf, ruledBy};
 use verdict::Reason;
 use verdict::Refusal;
 
@@ -13,16 +13,25 @@ pub struct Rule {
     pub greatest: u64,
 }
 
-impl Rule {
-    // Whether a word keeps the rule.
-    fn admits(self, word: u64) -> bool
-        ensures { λ r. ⌜ r ≡ admitted self word ⌝ }
-    {
-        if self.sign <= word {
-            word - self.sign <= self.greatest
-        } else {
-            word <= self.greatest
-        }
+// The rule of these parts.
+fn rule_of(length: usize, sign: u64, greatest: u64) -> Rule
+    ensures { λ r. ⌜ r ≡ record { length = length; sign = sign; greatest = greatest } ⌝ }
+{
+    Rule {
+        length,
+        sign,
+        greatest,
+    }
+}
+
+// Whether a word, with its sign cleared, is at most the greatest.
+fn at_most(word: u64, sign: u64, greatest: u64) -> bool
+    ensures { λ r. ⌜ r ≡ leb (cleared sign word) greatest ⌝ }
+{
+    if sign <= word {
+        word - sign <= greatest
+    } else {
+        word <= greatest
     }
 }
 
@@ -34,28 +43,18 @@ impl Half {
 
     pub const ONE: u64 = 0x3C00;
 
-    const DEVIATIONS: Rule = Rule {
-        length: 2,
-        sign: 0,
-        greatest: Half::GREATEST,
-    };
-
-    const COEFFICIENTS: Rule = Rule {
-        length: 2,
-        sign: 0x8000,
-        greatest: Half::ONE,
-    };
+    const SIGN: u64 = 0x8000;
 
     fn deviation(word: u64) -> bool
         ensures { λ r. ⌜ r ≡ admitted (deviations half) word ⌝ }
     {
-        Half::DEVIATIONS.admits(word)
+        at_most(word, 0, Half::GREATEST)
     }
 
     fn coefficient(word: u64) -> bool
         ensures { λ r. ⌜ r ≡ admitted (coefficients half) word ⌝ }
     {
-        Half::COEFFICIENTS.admits(word)
+        at_most(word, Half::SIGN, Half::ONE)
     }
 }
 
@@ -67,28 +66,18 @@ impl Single {
 
     pub const ONE: u64 = 0x3F80_0000;
 
-    const DEVIATIONS: Rule = Rule {
-        length: 4,
-        sign: 0,
-        greatest: Single::GREATEST,
-    };
-
-    const COEFFICIENTS: Rule = Rule {
-        length: 4,
-        sign: 0x8000_0000,
-        greatest: Single::ONE,
-    };
+    const SIGN: u64 = 0x8000_0000;
 
     fn deviation(word: u64) -> bool
         ensures { λ r. ⌜ r ≡ admitted (deviations single) word ⌝ }
     {
-        Single::DEVIATIONS.admits(word)
+        at_most(word, 0, Single::GREATEST)
     }
 
     fn coefficient(word: u64) -> bool
         ensures { λ r. ⌜ r ≡ admitted (coefficients single) word ⌝ }
     {
-        Single::COEFFICIENTS.admits(word)
+        at_most(word, Single::SIGN, Single::ONE)
     }
 }
 
@@ -100,28 +89,18 @@ impl Double {
 
     pub const ONE: u64 = 0x3FF0_0000_0000_0000;
 
-    const DEVIATIONS: Rule = Rule {
-        length: 8,
-        sign: 0,
-        greatest: Double::GREATEST,
-    };
-
-    const COEFFICIENTS: Rule = Rule {
-        length: 8,
-        sign: 0x8000_0000_0000_0000,
-        greatest: Double::ONE,
-    };
+    const SIGN: u64 = 0x8000_0000_0000_0000;
 
     fn deviation(word: u64) -> bool
         ensures { λ r. ⌜ r ≡ admitted (deviations double) word ⌝ }
     {
-        Double::DEVIATIONS.admits(word)
+        at_most(word, 0, Double::GREATEST)
     }
 
     fn coefficient(word: u64) -> bool
         ensures { λ r. ⌜ r ≡ admitted (coefficients double) word ⌝ }
     {
-        Double::COEFFICIENTS.admits(word)
+        at_most(word, Double::SIGN, Double::ONE)
     }
 }
 
@@ -183,9 +162,9 @@ pub fn deviation_rule(mapped: bool, length: usize) -> Ruled
     } else {
         ieee_rule(
             length,
-            Half::DEVIATIONS,
-            Single::DEVIATIONS,
-            Double::DEVIATIONS,
+            rule_of(2, 0, Half::GREATEST),
+            rule_of(4, 0, Single::GREATEST),
+            rule_of(8, 0, Double::GREATEST),
         )
     }
 }
@@ -199,9 +178,9 @@ pub fn coefficient_rule(mapped: bool, length: usize) -> Ruled
     } else {
         ieee_rule(
             length,
-            Half::COEFFICIENTS,
-            Single::COEFFICIENTS,
-            Double::COEFFICIENTS,
+            rule_of(2, Half::SIGN, Half::ONE),
+            rule_of(4, Single::SIGN, Single::ONE),
+            rule_of(8, Double::SIGN, Double::ONE),
         )
     }
 }
