@@ -8,7 +8,7 @@ use lib.Dec.{ltb}
 use lib.ListN.{length, getD, drop}
 use Rattle.verdict.specs.declared.Verdict.{Verdict}
 use Rattle.verdict.specs.declared.Verdict.the-variants.{Complete, Unfinished, Refused}
-use Rattle.verdict.specs.Machine.{led}
+use Rattle.verdict.specs.Reaching.{led}
 use Rattle.verdict.proofs.Cases.{either}
 use Rattle.verdict.proofs.Reaching.{reach-cut, reach-step}
 use Rattle.number.specs.declared.Effect.{Effect}

@@ -7,7 +7,8 @@ use Rattle.verdict.specs.declared.Reason.{Reason}
 use Rattle.verdict.specs.declared.Reason.the-variants.{Processing}
 use Rattle.verdict.specs.declared.Verdict.{Verdict}
 use Rattle.verdict.specs.Numbers.{numberOf}
-use Rattle.verdict.specs.Machine.{Move, on, done, bad, run, reach, led}
+use Rattle.verdict.specs.Machine.{Move, on, done, bad, run}
+use Rattle.verdict.specs.Reaching.{reach, led}
 use Rattle.number.specs.declared.Effect.{Effect}
 use Rattle.number.specs.declared.Effect.the-variants.{Ends, GoesOn, Refused}
 use Rattle.number.specs.Octet.{effectOf}

@@ -14,7 +14,8 @@ use Rattle.verdict.specs.declared.Reason.{Reason}
 use Rattle.verdict.specs.declared.Reason.the-variants.{Processing}
 use Rattle.verdict.specs.declared.Refusal.{Refusal}
 use Rattle.verdict.specs.declared.Verdict.the-variants.{Complete, Unfinished, Refused}
-use Rattle.verdict.specs.Machine.{Move, on, bad, led}
+use Rattle.verdict.specs.Machine.{Move, on, bad}
+use Rattle.verdict.specs.Reaching.{led}
 use Rattle.verdict.specs.Says.{Bytes}
 use Rattle.verdict.proofs.Cases.{either}
 use Rattle.verdict.proofs.Reaching.{reach-start, reach-cut, reach-step}

@@ -11,7 +11,8 @@ use Rattle.verdict.proofs.Beginnings.{complete-refused, refused-behind}
 use Rattle.verdict.specs.declared.Reason.{Reason}
 use Rattle.verdict.specs.declared.Refusal.{Refusal}
 use Rattle.verdict.specs.declared.Verdict.the-variants.{Refused}
-use Rattle.verdict.specs.Machine.{Move, on, bad, led}
+use Rattle.verdict.specs.Machine.{Move, on, bad}
+use Rattle.verdict.specs.Reaching.{led}
 use Rattle.verdict.specs.declared.Judged.the-variants.{Kept as JudgedKept, Broken}
 use Rattle.verdict.specs.Judgement.{judgement}
 use Rattle.matrix.specs.Machine.{State, word, Run, enter, step, least}

@@ -5,7 +5,8 @@ use mathlib.Core.Bool.{true}
 use mathlib.Core.Logic.{_⊎_}
 use mathlib.Core.List.{List, [], _∷_}
 use Rattle.verdict.specs.declared.Verdict.{Verdict}
-use Rattle.verdict.specs.Machine.{Move, reach, led}
+use Rattle.verdict.specs.Machine.{Move}
+use Rattle.verdict.specs.Reaching.{reach, led}
 use Rattle.rule.specs.Sound.{Sound}
 use Rattle.matrix.specs.declared.Fields.{Fields}
 use Rattle.matrix.specs.Meaning.{LawfulFirst, LawfulFields}

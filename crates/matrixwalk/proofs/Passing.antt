@@ -15,7 +15,8 @@ use Rattle.verdict.specs.declared.Verdict.the-variants.{Unfinished}
 use Rattle.verdict.specs.declared.Verdict.{Verdict}
 use Rattle.verdict.specs.declared.Reason.the-variants.{ValueRange}
 use Rattle.verdict.proofs.Cases.{by-test, either}
-use Rattle.verdict.specs.Machine.{Move, led}
+use Rattle.verdict.specs.Machine.{Move}
+use Rattle.verdict.specs.Reaching.{led}
 use Rattle.verdict.proofs.Reaching.{reach-cut, reach-step}
 use Rattle.rule.specs.declared.rules.Rule.{Rule}
 use Rattle.rule.specs.Rules.{Keeps, cleared}

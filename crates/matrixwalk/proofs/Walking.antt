@@ -6,7 +6,7 @@ use native.Mathlib.Omega.{arith}
 use lib.ListN.{length}
 use Rattle.verdict.specs.declared.Verdict.{Verdict}
 use Rattle.verdict.specs.declared.Verdict.the-variants.{Complete, Unfinished, Refused}
-use Rattle.verdict.specs.Machine.{led}
+use Rattle.verdict.specs.Reaching.{led}
 use Rattle.rule.specs.declared.rules.Rule.{Rule}
 use Rattle.rule.specs.Rules.{deviationRule, coefficientRule, ruledBy}
 use Rattle.rule.proofs.Certain.{deviation-length, coefficient-length}

@@ -7,7 +7,8 @@ use lib.ListN.{take, drop}
 use Rattle.verdict.specs.declared.Refusal.{Refusal}
 use Rattle.verdict.specs.declared.Verdict.{Verdict}
 use Rattle.verdict.specs.declared.Verdict.the-variants.{Complete, Unfinished, Refused}
-use Rattle.verdict.specs.Machine.{Move, on, done, bad, shift, follow, run, reach}
+use Rattle.verdict.specs.Machine.{Move, on, done, bad, shift, follow, run}
+use Rattle.verdict.specs.Reaching.{reach}
 
 pub complete-refused : {n : ℕ} {r : Refusal} → Complete n ≡ Refused r → ⊥
 complete-refused e = let z : _≡_ {A = ℕ} 0 1 = cc in omega arith

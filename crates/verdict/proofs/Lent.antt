@@ -11,7 +11,8 @@ use Rattle.verdict.specs.declared.Reason.the-variants.{SmallBuffer}
 use Rattle.verdict.specs.declared.Refusal.{Refusal}
 use Rattle.verdict.specs.declared.Verdict.the-variants.{Complete, Unfinished, Refused}
 use Rattle.verdict.specs.Writing.{refusing}
-use Rattle.verdict.specs.Lent.{over, overFirst, saidFor, leftFor}
+use Rattle.verdict.specs.Lent.{over, saidFor, leftFor}
+use Rattle.verdict.specs.Filling.{overFirst}
 
 over-more : (values out : List ℕ) (i : ℕ) → i < length values → i < length out → set (overFirst i values out) i (getD values i 0) ≡ overFirst (i + 1) values out
 over-more values out i h k =

@@ -9,7 +9,8 @@ use lib.ListN.{length, drop, getD, drop-of-length-le}
 use lib.Seq.{drop-cons}
 use Rattle.verdict.specs.declared.Verdict.{Verdict}
 use Rattle.verdict.specs.declared.Verdict.the-variants.{Complete, Unfinished, Refused}
-use Rattle.verdict.specs.Machine.{Move, on, done, bad, shift, follow, run, reach, led}
+use Rattle.verdict.specs.Machine.{Move, on, done, bad, shift, follow, run}
+use Rattle.verdict.specs.Reaching.{reach, led}
 
 pub shift-shift : (i j : ℕ) (v : Verdict) → shift i (shift j v) ≡ shift (i + j) v
 shift-shift i j (Complete n) = ap Complete (sym (add-assoc i j n))

@@ -2,7 +2,7 @@
 use Prim.Native.Nat.{ℕ}
 use mathlib.Core.Bool.{Bool, cond}
 use mathlib.Core.List.{List, _++_}
-use lib.ListN.{length, take, drop}
+use lib.ListN.{length, drop}
 use Rattle.verdict.specs.declared.Reason.the-variants.{SmallBuffer}
 use Rattle.verdict.specs.declared.Verdict.{Verdict}
 use Rattle.verdict.specs.declared.Verdict.the-variants.{Complete, Unfinished, Refused}
@@ -11,10 +11,6 @@ use Rattle.verdict.specs.Writing.{refusing}
 -- values over the first entries of a list; those past them stay
 abbrev pub over : List ℕ → List ℕ → List ℕ
 over values out = values ++ drop (length values) out
-
--- the first so many of them
-abbrev pub overFirst : ℕ → List ℕ → List ℕ → List ℕ
-overFirst count values out = take count values ++ drop count out
 
 -- a verdict other than complete first, then 13
 abbrev pub saidFor : Verdict → Bool → Verdict

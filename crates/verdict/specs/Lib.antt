@@ -1,8 +1,10 @@
 pub mod Numbers
 pub mod Says
 pub mod Machine
+pub mod Reaching
 pub mod Rows
 pub mod Writing
 pub mod Lent
+pub mod Filling
 pub mod Judgement
 pub mod Stated

@@ -1,8 +1,7 @@
 -- A machine that each byte moves on, the verdict of its run, and the laws that each kind of pack owes for its machine.
-use Prim.Native.Nat.{ℕ, suc, _+_, _-_, _≤_, _<_}
+use Prim.Native.Nat.{ℕ, suc, _+_, _≤_, _<_}
 use mathlib.Core.Path.{_≡_}
 use mathlib.Core.List.{List, [], _∷_}
-use lib.ListN.{drop}
 use Rattle.verdict.specs.declared.Reason.{Reason}
 use Rattle.verdict.specs.declared.Verdict.{Verdict}
 use Rattle.verdict.specs.declared.Verdict.the-variants.{Complete, Unfinished, Refused}
@@ -59,14 +58,3 @@ module _ {S : Type 0} (step : S → ℕ → Move S) where
   pub record Laws (least : S → ℕ) (Good : S → Type 0) : Type 0 where
     pub falls : (s : S) → Good s → (b : ℕ) → b < 256 → Falls least Good (least s) (step s b)
     pub nears : (s : S) → Good s → (b : ℕ) × (b < 256) × Nears least (least s) (step s b)
-
-  -- the verdict on all the bytes, from a state that the machine has reached at a place of them
-  unfoldable pub reach : (S → ℕ) → S → List ℕ → ℕ → Verdict
-  reach least s bytes place = shift place (run least s (drop place bytes))
-
-  -- and behind the move of the byte before that place
-  unfoldable pub led : (S → ℕ) → Move S → List ℕ → ℕ → Verdict
-  unfolding reach
-  led least (on s) bytes place = reach least s bytes place
-  led least done bytes place = Complete place
-  led least (bad reason) bytes place = Refused (record { reason = reason; place = place - 1 })

@@ -4,7 +4,7 @@ use mathlib.Core.Path.{_≡_, refl}
 use native.Mathlib.Omega.{arith}
 use borrow.Author.Needs.{needs}
 use lib.ListN.{length as count}
-use Rattle.verdict.specs.Lent.{overFirst}
+use Rattle.verdict.specs.Filling.{overFirst}
 use Rattle.verdict.proofs.Lent.{filled-more, filled-length, filled-all}
 use Rattle.listing.proofs.Listing.{listed-short, listed-whole, listed-unfinished, listed-refused}
 use Rattle.listing.proofs.list.Statement.{statement}

@@ -4,7 +4,7 @@ use mathlib.Core.Path.{_≡_, refl, sym}
 use native.Mathlib.Omega.{arith}
 use denote.Ref.{now}
 use lib.ListN.{length as count, replicate, length-replicate, getD-replicate}
-use Rattle.verdict.specs.Lent.{overFirst}
+use Rattle.verdict.specs.Filling.{overFirst}
 use Rattle.verdict.proofs.Lent.{filled-more, filled-length, filled-all}
 use borrow.Author.Needs.{needs}
 use Rattle.unpack.proofs.words.fill_marks.Statement.{statement}

@@ -8,7 +8,7 @@ use lib.ListN.{length as size, take}
 use Rattle.matrix.specs.Meaning.{sum, pairs}
 use Rattle.matrix.specs.Spelling.{meaningIn}
 use Rattle.unpack.specs.Found.{meaningFound, coefficientAt}
-use Rattle.verdict.specs.Lent.{overFirst}
+use Rattle.verdict.specs.Filling.{overFirst}
 use Rattle.verdict.proofs.Lent.{filled-more, filled-length, filled-all}
 use Rattle.unpack.proofs.Filling.{Small, small, vector-within, words-within, coefficient-count, mark-count, coefficient-place, coefficient-next, coefficient-within, coefficient-is}
 use Rattle.counts.proofs.Counts.{pairs-counted}
