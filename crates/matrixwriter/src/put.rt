@@ -15,8 +15,8 @@ use matrix::Fields;
 use verdict::Reason;
 use verdict::Refusal;
 use verdict::Verdict;
-use word::bytes::write_at;
-use word::many::write_all;
+use wordwriter::bytes::write_at;
+use wordwriter::many::write_all;
 
 // M, how many pairs of variables there are.
 fn pairs_of(n: usize) -> usize

@@ -2,6 +2,8 @@ pub mod Said
 pub mod Frames
 pub mod Paper
 pub mod Stored
+pub mod ArrayVerdicts
+pub mod ArrayRoundTrip
 pub mod ArrayTrip
 pub mod Starred
 pub mod Sample
