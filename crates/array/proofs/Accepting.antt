@@ -12,7 +12,7 @@ use Rattle.verdict.proofs.Judging.{Reaches}
 use Rattle.number.specs.declared.Effect.{Effect}
 use Rattle.number.specs.Octets.{high, octets, numbers}
 use Rattle.number.proofs.Octet.{Does, ends, goes, fails, does, effect-ends, effect-goes}
-use Rattle.number.proofs.Octets.{Begun, none as nothing, more as further, begun, high-none, high-more, octets-more}
+use Rattle.number.proofs.Octets.{Sevens, none as nothing, more as further, begun, high-none, high-more, octets-more}
 use Rattle.array.specs.Meaning.{product, most}
 use Rattle.array.specs.Spelling.{ArrayPack}
 use Rattle.array.specs.Table.{Field, dims, size, element, processing, limit, positive}
@@ -32,7 +32,7 @@ more-accepted : (field : Field) (v d : ℕ) (t : List ℕ) → d < 128 → 0 < v
 unfolding Accepts
 more-accepted field v d t h p l x = (omega arith, subst (λ (e : Effect). Reaches move (behindEffect field e) t) (sym (effect-goes d v (positive field) (limit field) p l)) x)
 
-begun-accepted : (field : Field) {v : ℕ} → Begun v → (t : List ℕ) → v * 128 ≤ limit field → Accepts move (number field v) t → Accepts move (number field 0) (high v ++ t)
+begun-accepted : (field : Field) {v : ℕ} → Sevens v → (t : List ℕ) → v * 128 ≤ limit field → Accepts move (number field v) t → Accepts move (number field 0) (high v ++ t)
 begun-accepted field nothing t l a = rw high-none a
 begun-accepted field (further {v} d h p b) t l a =
     rw (high-more v d h p, append-assoc) (begun-accepted field b ((128 + d) ∷ t) (omega arith) (more-accepted field v d t h p l a))

@@ -33,7 +33,7 @@ count-outside (s ∷ sizes) [] d = refl
 count-outside (s ∷ sizes) (x ∷ xs) d = rw (count-outside sizes xs (λ e. d (ap suc e))) (and-false (ltb x s))
 
 -- behind so many indices, all below their sizes, the sum that an offset has so far; the other sizes have at least one element
-pub record Begun (sizes indices : List ℕ) (count sum : ℕ) : Type 0 where
+pub record Summed (sizes indices : List ℕ) (count sum : ℕ) : Type 0 where
   pub least : 1 ≤ product (drop count sizes)
   pub below : (sum + 1) * product (drop count sizes) ≤ product sizes
   pub summed : offset sizes indices ≡ sum * product (drop count sizes) + offset (drop count sizes) (drop count indices)
@@ -51,32 +51,32 @@ below-next sum s x p n l h =
     omega (arith, mul-le-mul-right p j, mul-assoc (sum + 1) s p)
 
 module _ (sizes indices : List ℕ) where
-  pub begun-none : 1 ≤ product sizes → Begun sizes indices 0 0
-  begun-none h = record { least = h; below = omega arith; summed = omega arith; left = refl }
+  pub summed-none : 1 ≤ product sizes → Summed sizes indices 0 0
+  summed-none h = record { least = h; below = omega arith; summed = omega arith; left = refl }
 
   -- what is summed so far is below the count of elements
-  pub begun-below : (count sum : ℕ) → Begun sizes indices count sum → sum < product sizes
-  begun-below count sum b = omega (arith, le-mul-of-pos-right {m = product (drop count sizes)} (sum + 1) (b .least), b .below)
+  pub summed-below : (count sum : ℕ) → Summed sizes indices count sum → sum < product sizes
+  summed-below count sum b = omega (arith, le-mul-of-pos-right {m = product (drop count sizes)} (sum + 1) (b .least), b .below)
 
   -- all indices are done
-  pub begun-inside : (count sum : ℕ) → Begun sizes indices count sum → length sizes ≤ count → length indices ≤ count → inside sizes indices ≡ true
+  pub summed-inside : (count sum : ℕ) → Summed sizes indices count sum → length sizes ≤ count → length indices ≤ count → inside sizes indices ≡ true
   unfolding inside
-  begun-inside count sum b h k = b .left ∙ rw (drop-of-length-le sizes h, drop-of-length-le indices k)
+  summed-inside count sum b h k = b .left ∙ rw (drop-of-length-le sizes h, drop-of-length-le indices k)
 
-  pub begun-offset : (count sum : ℕ) → Begun sizes indices count sum → length sizes ≤ count → offset sizes indices ≡ sum
+  pub summed-offset : (count sum : ℕ) → Summed sizes indices count sum → length sizes ≤ count → offset sizes indices ≡ sum
   unfolding offset product
-  begun-offset count sum b h = b .summed ∙ rw (drop-of-length-le sizes h) (omega arith)
+  summed-offset count sum b h = b .summed ∙ rw (drop-of-length-le sizes h) (omega arith)
 
-  module _ (count sum : ℕ) (b : Begun sizes indices count sum) (h : count < length sizes) (k : count < length indices) (size : ℕ) (d : size ≡ getD sizes count 0) where
+  module _ (count sum : ℕ) (b : Summed sizes indices count sum) (h : count < length sizes) (k : count < length indices) (size : ℕ) (d : size ≡ getD sizes count 0) where
     -- the next index is not below its size
-    pub begun-outside : size ≤ getD indices count 0 → inside sizes indices ≡ false
+    pub summed-outside : size ≤ getD indices count 0 → inside sizes indices ≡ false
     unfolding inside
-    begun-outside l = b .left ∙ rw (drop-cons sizes count 0 h, drop-cons indices count 0 k, ← d, le-ltb (getD indices count 0) size l)
+    summed-outside l = b .left ∙ rw (drop-cons sizes count 0 h, drop-cons indices count 0 k, ← d, le-ltb (getD indices count 0) size l)
 
     -- one index more
-    pub begun-next : getD indices count 0 < size → Begun sizes indices (count + 1) (sum * size + getD indices count 0)
+    pub summed-next : getD indices count 0 < size → Summed sizes indices (count + 1) (sum * size + getD indices count 0)
     unfolding inside offset product
-    begun-next l =
+    summed-next l =
         let x = getD indices count 0 in
         let p = product (drop (suc count) sizes) in
         let o = offset (drop (suc count) sizes) (drop (suc count) indices) in

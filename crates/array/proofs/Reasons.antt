@@ -19,7 +19,7 @@ use Rattle.number.specs.declared.Effect.{Effect}
 use Rattle.number.specs.declared.Effect.the-variants.{Ends, GoesOn, Refused}
 use Rattle.number.specs.Octet.{ended, goneOn, effectOf}
 use Rattle.array.specs.Meaning.{product}
-use Rattle.array.specs.Table.{Field, dims, size, element, processing, limit, positive, over, octetRows, Begun, withOctet, Part, field, array, partBehindSizes, partBehind, rowsIn, rowsBehind, rowsOf, Why}
+use Rattle.array.specs.Table.{Field, dims, size, element, processing, limit, positive, over, octetRows, OctetsRead, withOctet, Part, field, array, partBehindSizes, partBehind, rowsIn, rowsBehind, rowsOf, Why}
 use Rattle.array.specs.Machine.{reasonIn, State, number, body, enter, behind, behindEffect, move}
 use Rattle.array.specs.Spelling.{ArrayPack}
 use Rattle.array.proofs.Products.{product-more}
@@ -141,17 +141,17 @@ whole-more numbers x w =
 -- ---- the machine beside them
 
 -- what is begun is where the machine stands
-abbrev Stands : Begun → State → Type 0
+abbrev Stands : OctetsRead → State → Type 0
 Stands begun (number f value) = Before (begun .numbers) f × (begun .value ≡ value)
 Stands begun (body more) = Whole (begun .numbers)
 
-abbrev Led : Begun → Move State → Type 0
+abbrev Led : OctetsRead → Move State → Type 0
 Led begun next = moved next (Stands begun) (Unit {0}) (λ r. ⊥)
 
-abbrev withNumber : List ℕ → ℕ → Begun
+abbrev withNumber : List ℕ → ℕ → OctetsRead
 withNumber numbers x = record { numbers = numbers ++ (x ∷ []); value = 0 }
 
-enter-led : (begun : Begun) (total : ℕ) → Whole (begun .numbers) → Led begun (enter total)
+enter-led : (begun : OctetsRead) (total : ℕ) → Whole (begun .numbers) → Led begun (enter total)
 enter-led begun zero w = tt
 enter-led begun (suc more) w = w
 
@@ -168,19 +168,19 @@ number-led (sizes-whole sizes) x p = (element-whole sizes x, refl)
 number-led (element-whole sizes e) x p = enter-led _ (product sizes * e) (record { count = length sizes; others = (sizes ++ (e ∷ [])) ++ (x ∷ []); parts = refl; enough = simp length-append (omega arith) })
 
 -- the rules of the next byte
-abbrev rowsNext : Begun → ℕ → List Row
+abbrev rowsNext : OctetsRead → ℕ → List Row
 rowsNext begun octet = rowsIn (partBehind (begun .numbers)) (begun .value) octet
 
 -- a byte that the machine takes breaks no rule of them, and any other is refused for the first rule broken
-abbrev Follows : List Row → Begun → Move State → Type 0
+abbrev Follows : List Row → OctetsRead → Move State → Type 0
 Follows rows begun next = moved next (λ t. Kept rows × Stands begun t) (Kept rows) (λ r. Blamed rows r)
 
-led-follows : (rows : List Row) (begun : Begun) (next : Move State) → Kept rows → Led begun next → Follows rows begun next
+led-follows : (rows : List Row) (begun : OctetsRead) (next : Move State) → Kept rows → Led begun next → Follows rows begun next
 led-follows rows begun (on s) k l = (k, l)
 led-follows rows begun done k l = k
 led-follows rows begun (bad r) k l = absurd l
 
-octet-follows : (begun : Begun) (f : Field) (octet : ℕ) → Before (begun .numbers) f → Follows (rowsNext begun octet) (withOctet begun octet) (move (number f (begun .value)) octet)
+octet-follows : (begun : OctetsRead) (f : Field) (octet : ℕ) → Before (begun .numbers) f → Follows (rowsNext begun octet) (withOctet begun octet) (move (number f (begun .value)) octet)
 octet-follows begun f octet b =
     subst (λ (part : Part). Follows (rowsIn part (begun .value) octet) (withOctet begun octet) (move (number f (begun .value)) octet)) (sym (before-part b))
     (go (effectOf octet (begun .value) (positive f) (limit f)) (ruled f (begun .value) octet))
@@ -190,22 +190,22 @@ octet-follows begun f octet b =
     go (GoesOn v) r = (r .0, rw (le-ltb octet 128 (r .1 .0)) (b, sym (r .1 .1)))
     go (Refused reason) r = r
 
-body-follows : (begun : Begun) (more octet : ℕ) → Whole (begun .numbers) → Follows (rowsNext begun octet) (withOctet begun octet) (enter more)
+body-follows : (begun : OctetsRead) (more octet : ℕ) → Whole (begun .numbers) → Follows (rowsNext begun octet) (withOctet begun octet) (enter more)
 body-follows begun more octet w =
-    let whole = by-test (λ (k : Begun). Whole (k .numbers)) (ltb octet 128) _ _ (λ _. whole-more (begun .numbers) _ w) (λ _. w) in
+    let whole = by-test (λ (k : OctetsRead). Whole (k .numbers)) (ltb octet 128) _ _ (λ _. whole-more (begun .numbers) _ w) (λ _. w) in
     led-follows (rowsNext begun octet) (withOctet begun octet) (enter more) (subst (λ (part : Part). Kept (rowsIn part (begun .value) octet)) (sym (whole-part (begun .numbers) w)) tt) (enter-led (withOctet begun octet) more whole)
 
-step-follows : (begun : Begun) (s : State) (octet : ℕ) → Stands begun s → Follows (rowsNext begun octet) (withOctet begun octet) (move s octet)
+step-follows : (begun : OctetsRead) (s : State) (octet : ℕ) → Stands begun s → Follows (rowsNext begun octet) (withOctet begun octet) (move s octet)
 step-follows begun (number f value) octet x = subst (λ (v : ℕ). Follows (rowsNext begun octet) (withOctet begun octet) (move (number f v) octet)) (x .1) (octet-follows begun f octet (x .0))
 step-follows begun (body more) octet x = body-follows begun more octet x
 
 -- ---- the table
 
 -- nothing begun
-abbrev start : Begun
+abbrev start : OctetsRead
 start = record { numbers = []; value = 0 }
 
-blames-behind : (w : List ℕ) (begun : Begun) (s : State) (r : Reason) → Stands begun s → Blames move s w r → Blamed (rowsBehind begun w) r
+blames-behind : (w : List ℕ) (begun : OctetsRead) (s : State) (r : Reason) → Stands begun s → Blames move s w r → Blamed (rowsBehind begun w) r
 unfolding Blames rowsBehind
 blames-behind [] begun s r x b = absurd b
 blames-behind (octet ∷ []) begun s r x b = go (move s octet) (step-follows begun s octet x) b
@@ -230,7 +230,7 @@ unfolding Blamed
 kept-blamed [] r k b = b
 kept-blamed (row ∷ rows) r k b = kept-blamed rows r (k .1) (rw (k .0) at b)
 
-accepted-kept : (w t : List ℕ) (begun : Begun) (s : State) (r : Reason) → Stands begun s → Accepts move s (w ++ t) → Blamed (rowsBehind begun w) r → ⊥
+accepted-kept : (w t : List ℕ) (begun : OctetsRead) (s : State) (r : Reason) → Stands begun s → Accepts move s (w ++ t) → Blamed (rowsBehind begun w) r → ⊥
 unfolding Accepts rowsBehind Blamed
 accepted-kept [] t begun s r x a b = b
 accepted-kept (octet ∷ []) t begun s r x a b = go (move s octet) (step-follows begun s octet x) (a .1)

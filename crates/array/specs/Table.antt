@@ -52,12 +52,12 @@ octetRows field value octet =
     ∷ []
 
 -- some bytes as octets: the numbers that are whole, and the value of the octets begun behind them
-pub record Begun : Type 0 where
+pub record OctetsRead : Type 0 where
   pub numbers : List ℕ
   pub value : ℕ
 
 -- one octet more: below 0x80 it ends its number
-abbrev pub withOctet : Begun → ℕ → Begun
+abbrev pub withOctet : OctetsRead → ℕ → OctetsRead
 withOctet begun octet =
     cond (ltb octet 0x80) (record { numbers = begun .numbers ++ ((begun .value * 128 + octet) ∷ []); value = 0 })
     (record { numbers = begun .numbers; value = begun .value * 128 + (octet - 0x80) })
@@ -86,7 +86,7 @@ rowsIn (field f) value octet = octetRows f value octet
 rowsIn array value octet = []
 
 -- the rules for the last of some bytes, behind those that have begun so
-unfoldable pub rowsBehind : Begun → List ℕ → List Row
+unfoldable pub rowsBehind : OctetsRead → List ℕ → List Row
 rowsBehind begun [] = []
 rowsBehind begun (octet ∷ []) = rowsIn (partBehind (begun .numbers)) (begun .value) octet
 rowsBehind begun (octet ∷ b ∷ w) = rowsBehind (withOctet begun octet) (b ∷ w)

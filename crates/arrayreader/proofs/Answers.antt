@@ -31,7 +31,7 @@ use Rattle.arrayreader.specs.Reading.{sizesOf, arrayReadFor, arrayReadOf
 use Rattle.arrayreader.specs.Again.{SizesTo, Put, AllPut, noneAgain, againBehind}
 use Rattle.arrayreader.specs.declared.Again.{Again}
 use Rattle.array.proofs.Complete.{complete-meaning}
-use Rattle.array.proofs.Offsets.{Begun, begun-inside, begun-offset}
+use Rattle.array.proofs.Offsets.{Summed, summed-inside, summed-offset}
 use Rattle.arraywalk.proofs.Finding.{walk-said, found-is, sizes-begin, size-drawn, sizes-next}
 
 -- ---- the sizes, drawn again
@@ -109,5 +109,5 @@ module _ (a : Meant) (indices : List ℕ) where
   pub refused-outside : inside (a .sizes) indices ≡ false → Refused (record { reason = Index; place = 0 }) ≡ addressIn a indices
   refused-outside h = rw h
 
-  pub offset-inside : (count sum element : ℕ) → Begun (a .sizes) indices count sum → length (a .sizes) ≤ count → length indices ≤ count → element ≡ a .element → Offset (sum * element) ≡ addressIn a indices
-  offset-inside count sum element b h k e = rw (begun-inside (a .sizes) indices count sum b h k, begun-offset (a .sizes) indices count sum b h, e)
+  pub offset-inside : (count sum element : ℕ) → Summed (a .sizes) indices count sum → length (a .sizes) ≤ count → length indices ≤ count → element ≡ a .element → Offset (sum * element) ≡ addressIn a indices
+  offset-inside count sum element b h k e = rw (summed-inside (a .sizes) indices count sum b h k, summed-offset (a .sizes) indices count sum b h, e)

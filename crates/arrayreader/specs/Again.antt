@@ -1,4 +1,4 @@
--- The sizes of a whole pack, as they are drawn again.
+-- For private functions alone: the sizes of a whole pack, as they are drawn again.
 use Prim.Native.Nat.{ℕ, _+_, _<_, _≤_}
 use mathlib.Core.Path.{_≡_}
 use mathlib.Core.List.{List}

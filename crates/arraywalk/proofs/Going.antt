@@ -16,7 +16,7 @@ use Rattle.number.proofs.Drawing.{limit-behind}
 use Rattle.array.specs.Meaning.{most}
 use Rattle.arraywalk.specs.declared.Progress.{Progress}
 use Rattle.arraywalk.specs.declared.Sized.{Sized}
-use Rattle.arraywalk.specs.Walk.{DimsTo, SizedTo, Takes, progressBehind, Going, Stands}
+use Rattle.arraywalk.specs.Parts.{DimsTo, SizedTo, Takes, progressBehind, Going, Stands}
 use Rattle.arraywalk.proofs.Walking.{sizes-none, size-limited, size-drawn, size-cut, size-refused}
 
 -- how many draws are left at most

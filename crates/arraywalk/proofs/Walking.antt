@@ -34,7 +34,8 @@ use Rattle.array.specs.Meaning.{product, most}
 use Rattle.array.specs.Decoded.{sizesIn, elementIn, meaningOf}
 use Rattle.array.specs.Table.{Field, dims, size, element, processing}
 use Rattle.array.specs.Machine.{State, number, behindSize, move, least, verdictOf, verdictBehind}
-use Rattle.arraywalk.specs.Walk.{behindSizes, DimsTo, SizedTo, ElementTo, ProcessedTo, FoundIn, WalkFrom, walkedFor, walkedOf}
+use Rattle.arraywalk.specs.Walk.{walkedFor, walkedOf}
+use Rattle.arraywalk.specs.Parts.{behindSizes, DimsTo, SizedTo, ElementTo, ProcessedTo, FoundIn, WalkFrom}
 use Rattle.array.proofs.Keeping.{limit-product}
 use Rattle.array.proofs.Drawing.{drawnVerdict, number-drawn, body-whole}
 use Rattle.array.proofs.Products.{product-more}

@@ -1,3 +1,4 @@
 pub mod Walk
+pub mod Parts
 pub mod Standing
 pub mod Stated

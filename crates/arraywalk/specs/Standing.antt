@@ -1,4 +1,4 @@
--- Where the sizes of a pack stand in its bytes.
+-- For private functions alone: where the sizes of a pack stand in its bytes.
 use Prim.Native.Nat.{ℕ}
 use mathlib.Core.Path.{_≡_}
 use mathlib.Core.List.{List, _++_}

@@ -2,5 +2,4 @@ pub mod Measuring
 pub mod Checking
 pub mod Given
 pub mod Parts
-pub mod RoundTrip
 pub mod Only

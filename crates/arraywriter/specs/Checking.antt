@@ -1,4 +1,4 @@
--- What the parts of the writer of array packs answer to each other.
+-- For private functions alone: what the parts of the writer of array packs answer to each other.
 use Prim.Native.Nat.{ℕ}
 use mathlib.Core.Bool.{cond}
 use mathlib.Core.List.{List, [], _∷_}

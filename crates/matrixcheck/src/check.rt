@@ -17,7 +17,7 @@ use matrixhead::judge::judge_fields;
 use rule::rules::Form;
 use verdict::Reason;
 use verdict::Refusal;
-use word::many::gather;
+use wordwriter::many::gather;
 
 // How many coefficients are sent, or that a mark does not fit.
 pub(crate) enum Marked {

@@ -19,8 +19,8 @@ use matrix::Fields;
 use verdict::Reason;
 use verdict::Verdict;
 use verdict::refuse;
-use word::bytes::write_at;
-use word::many::write_all;
+use wordwriter::bytes::write_at;
+use wordwriter::many::write_all;
 
 // A word in so many bytes at a place.
 fn put_word(out: &mut [u8], place: usize, length: usize, word: u64)

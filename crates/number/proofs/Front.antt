@@ -11,7 +11,7 @@ use Rattle.number.specs.declared.Drawn.the-variants.{Number}
 use Rattle.number.specs.Draw.{drawAt}
 use Rattle.number.specs.Octets.{high, octets, numbers}
 use Rattle.number.specs.Front.{front, Fronts, fronts}
-use Rattle.number.proofs.Octets.{Begun, none, more, begun, high-none, high-more, Shortest, drawn-shortest}
+use Rattle.number.proofs.Octets.{Sevens, none, more, begun, high-none, high-more, Shortest, drawn-shortest}
 
 module _ (v d : ℕ) (t : List ℕ) where
   front-goes : front v ((128 + d) ∷ t) ≡ front (v * 128 + d) t
@@ -22,7 +22,7 @@ module _ (v d : ℕ) (t : List ℕ) where
   unfolding front
   front-ends h = rw (lt-ltb d 128 h)
 
-front-begun : {v : ℕ} → Begun v → (t : List ℕ) → front 0 (high v ++ t) ≡ front v t
+front-begun : {v : ℕ} → Sevens v → (t : List ℕ) → front 0 (high v ++ t) ≡ front v t
 front-begun none t = rw high-none
 front-begun (more {v} d l p b) t = rw (high-more v d l p, append-assoc) (front-begun b ((128 + d) ∷ t) ∙ front-goes v d t)
 

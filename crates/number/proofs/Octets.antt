@@ -51,21 +51,21 @@ unfolding octets high highIn
 octets-128 = refl
 
 -- a value by its octets but the last: none for 0, else one more
-pub data Begun : ℕ → Type 0 where
-  none : Begun 0
-  more : {v : ℕ} (d : ℕ) → d < 128 → 0 < v * 128 + d → Begun v → Begun (v * 128 + d)
+pub data Sevens : ℕ → Type 0 where
+  none : Sevens 0
+  more : {v : ℕ} (d : ℕ) → d < 128 → 0 < v * 128 + d → Sevens v → Sevens (v * 128 + d)
 
-begun-next : (f : ℕ) → ((v : ℕ) → v ≤ f → Begun v) → (v : ℕ) → v ≤ suc f → Begun v
+begun-next : (f : ℕ) → ((v : ℕ) → v ≤ f → Sevens v) → (v : ℕ) → v ≤ suc f → Sevens v
 begun-next f before zero h = none
 begun-next f before (suc k) h =
     let e : suc k / 128 * 128 + suc k % 128 ≡ suc k = omega arith in
-    subst Begun e (more (suc k % 128) (omega arith) (omega arith) (before (suc k / 128) (omega arith)))
+    subst Sevens e (more (suc k % 128) (omega arith) (omega arith) (before (suc k / 128) (omega arith)))
 
-begun-below : (f v : ℕ) → v ≤ f → Begun v
-begun-below zero v h = let e : 0 ≡ v = omega arith in subst Begun e none
+begun-below : (f v : ℕ) → v ≤ f → Sevens v
+begun-below zero v h = let e : 0 ≡ v = omega arith in subst Sevens e none
 begun-below (suc f) v h = begun-next f (begun-below f) v h
 
-pub begun : (v : ℕ) → Begun v
+pub begun : (v : ℕ) → Sevens v
 begun v = begun-below v v (omega arith)
 
 getD-last : (s : List ℕ) (x i : ℕ) → ((k : ℕ) → getD s k 0 < 256) → x < 256 → getD (s ++ (x ∷ [])) i 0 < 256
@@ -74,7 +74,7 @@ getD-last [] x (suc i) h p = omega arith
 getD-last (y ∷ s) x zero h p = h 0
 getD-last (y ∷ s) x (suc i) h p = getD-last s x i (λ k. h (suc k)) p
 
-begun-bytes : {v : ℕ} → Begun v → (i : ℕ) → getD (high v) i 0 < 256
+begun-bytes : {v : ℕ} → Sevens v → (i : ℕ) → getD (high v) i 0 < 256
 begun-bytes none i = rw high-none (omega arith)
 begun-bytes (more {v} d h p b) i = rw (high-more v d h p) (getD-last (high v) (128 + d) i (λ k. begun-bytes b k) (omega arith))
 
@@ -99,7 +99,7 @@ module _ (v d place : ℕ) (positive : Bool) (most : ℕ) (t : List ℕ) where
   ends-drawn l p h = rw (effect-ends d v positive most l p h)
 
 module _ (place : ℕ) (positive : Bool) (most : ℕ) where
-  begun-drawn : {v : ℕ} → Begun v → (t : List ℕ) → v * 128 ≤ most → drawOn (high v ++ t) place 0 positive most ≡ drawOn t (place + length (high v)) v positive most
+  begun-drawn : {v : ℕ} → Sevens v → (t : List ℕ) → v * 128 ≤ most → drawOn (high v ++ t) place 0 positive most ≡ drawOn t (place + length (high v)) v positive most
   begun-drawn none t h = rw high-none (ap (λ (k : ℕ). drawOn t k 0 positive most) (omega arith))
   begun-drawn (more {v} d l p b) t h =
       rw (high-more v d l p, append-assoc, length-append)

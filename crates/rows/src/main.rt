@@ -122,9 +122,9 @@ fn texted_row(kind: usize, text: &[u8], bytes: &[u8], given: Given) {
         reads::beginnings(kind, bytes);
     }
     io::write_all(STDOUT_FILENO, text);
-    io::write_all(STDOUT_FILENO, b" ");
+    say::put(32);
     say_row(kind, bytes, given);
-    io::write_all(STDOUT_FILENO, b"\n");
+    say::put(10);
 }
 
 // A row whose text spells so many bytes; those behind them are 0.
@@ -134,10 +134,12 @@ fn row_of(text: &[u8], bytes: &[u8; 65536], n: usize)
     let all = &bytes[..];
     let kind = byte_at(text, 0);
     if kind == 81 {
+        say::put(81);
         writes::again_row(kind, &all[0..n]);
         return;
     }
     if kind == 82 {
+        say::put(82);
         writes::again_row(kind, &all[0..n]);
         return;
     }

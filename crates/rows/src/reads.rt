@@ -6,10 +6,13 @@ use crate::say::CANARY_BYTE;
 use crate::say::UNFINISHED;
 use crate::say::kept_bytes;
 use crate::say::kept_words;
+use crate::say::put;
 use crate::say::say;
 use crate::say::say_answer;
+use crate::say::say_begun;
 use crate::say::say_bytes;
 use crate::say::say_kept;
+use crate::say::say_next;
 use crate::say::say_words;
 use libc::STDOUT_FILENO;
 use rule::scaled::Scaled;
@@ -29,22 +32,19 @@ pub(crate) fn verdict_on(kind: usize, bytes: &[u8]) -> u64 {
 pub(crate) fn beginnings(kind: usize, bytes: &[u8]) {
     let mut k = 0;
     while k < bytes.len() {
-        say(b"", k as u64);
-        io::write_all(STDOUT_FILENO, b" ");
-        say_answer(verdict_on(kind, &bytes[0..k]));
-        io::write_all(STDOUT_FILENO, b"\n");
+        say_begun(k, verdict_on(kind, &bytes[0..k]));
         k += 1;
     }
 }
 
 fn say_numbers(list: &[usize; 11]) {
-    io::write_all(STDOUT_FILENO, b"array ");
+    io::write_all(STDOUT_FILENO, b"array");
     let mut i = 0;
     while i < 11 {
-        say(b"", list[i] as u64);
-        io::write_all(STDOUT_FILENO, b" ");
+        say_next(list[i] as u64);
         i += 1;
     }
+    put(32);
 }
 
 // The offset that the indices behind the first of so many numbers give.
@@ -104,9 +104,9 @@ fn say_unpacked(n: usize, deviations: &[u64; 72], coefficients: &[u64; 2032], ma
     let cs = &coefficients[..];
     let ms = &marks[..];
     if n > 0 {
-        say_words(b" deviations", &ds[1..1 + n]);
-        say_words(b" coefficients", &cs[1..1 + m]);
-        say_bytes(b" marks", &ms[1..1 + m]);
+        say_words(68, &ds[1..1 + n]);
+        say_words(67, &cs[1..1 + m]);
+        say_bytes(77, &ms[1..1 + m]);
     }
     say_kept(kept_words(ds, n) & kept_words(cs, m) & kept_bytes(ms, m));
 }
@@ -143,8 +143,8 @@ fn say_expanded(n: usize, words: &[u64; 4112], marks: &[u8; 4112])
     let ws = &words[..];
     let ms = &marks[..];
     if n > 0 {
-        say_words(b" words", &ws[1..1 + count]);
-        say_bytes(b" marks", &ms[1..1 + count]);
+        say_words(87, &ws[1..1 + count]);
+        say_bytes(77, &ms[1..1 + count]);
     }
     say_kept(kept_words(ws, count) & kept_bytes(ms, count));
 }
@@ -177,7 +177,7 @@ fn say_scaled(word: u64, length: usize) {
                 say(b" -", size);
                 return;
             }
-            say(b" ", size);
+            say_next(size);
         }
         Scaled::Refused(_) => {}
     }

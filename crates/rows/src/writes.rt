@@ -3,10 +3,10 @@ ghost use Prim.Native.Nat.{_≤_};
 use crate::say::CANARY_BYTE;
 use crate::say::UNFINISHED;
 use crate::say::kept_bytes;
-use crate::say::say;
 use crate::say::say_answer;
 use crate::say::say_bytes;
 use crate::say::say_kept;
+use crate::say::say_next;
 use libc::STDOUT_FILENO;
 use verdict::lesser;
 use word::bytes::Read;
@@ -100,19 +100,18 @@ fn same(kind: usize, bytes: &[u8]) -> bool {
     again(kind, bytes, count) & (again(kind, bytes, count - 1) & again(kind, bytes, count + 9))
 }
 
-// The bytes are not said again.
-pub(crate) fn again_row(kind: usize, bytes: &[u8]) {
-    if kind == 82 {
-        io::write_all(STDOUT_FILENO, b"R");
-    } else {
-        io::write_all(STDOUT_FILENO, b"Q");
-    }
-    say(b" ", bytes.len() as u64);
-    if same(kind, bytes) {
+fn say_same(same: bool) {
+    if same {
         io::write_all(STDOUT_FILENO, b" same\n");
         return;
     }
     io::write_all(STDOUT_FILENO, b" differs\n");
+}
+
+// The bytes are not said again.
+pub(crate) fn again_row(kind: usize, bytes: &[u8]) {
+    say_next(bytes.len() as u64);
+    say_same(same(kind, bytes));
 }
 
 // The answer, the first bytes written, and whether all others are as they were.
@@ -121,7 +120,7 @@ fn say_written(answer: u64, buffer: &[u8; 33024]) {
     say_answer(answer);
     if answer < UNFINISHED {
         let count = lesser(answer as usize, 33023);
-        say_bytes(b"", &out[1..1 + lesser(count, 64)]);
+        say_bytes(0, &out[1..1 + lesser(count, 64)]);
         say_kept(kept_bytes(out, count));
         return;
     }

@@ -23,7 +23,8 @@ use Rattle.array.specs.Decoded.{meaningOf}
 use Rattle.array.specs.Offsets.{inside, offset}
 use Rattle.array.specs.Table.{Why}
 use Rattle.array.specs.Machine.{verdictOf}
-use Rattle.array.proofs.Verdicts.{array-said, array-only, array-complete}
+use Rattle.array.proofs.Verdicts.{array-said, array-complete}
+use Rattle.theorems.proofs.ArrayVerdicts.{array-only}
 use Rattle.array.proofs.Decoding.{meaning-back}
 use Rattle.array.proofs.Complete.{complete-meaning, complete-count}
 use Rattle.array.proofs.Offsets.{offset-below}
@@ -36,7 +37,7 @@ use Rattle.arrayreader.proofs.read.Reads as read-reads
 use Rattle.arrayreader.proofs.address.Kinds as address
 use Rattle.arrayreader.proofs.address.Reads as address-reads
 use Rattle.arraywriter.specs.Given.{meaningGiven, writerRows}
-use Rattle.arraywriter.proofs.RoundTrip.{writer-accepts, read-written}
+use Rattle.theorems.proofs.ArrayRoundTrip.{writer-accepts, read-written}
 use Rattle.arraywriter.proofs.write.Kinds as write
 use Rattle.arraywriter.proofs.write.Reads as write-reads
 

@@ -11,6 +11,8 @@ pub mod MatrixTrip
 pub mod Stored
 pub mod Noughts
 pub mod Symmetry
+pub mod ArrayVerdicts
+pub mod ArrayRoundTrip
 pub mod ArrayTrip
 pub mod Starred
 pub mod Sample

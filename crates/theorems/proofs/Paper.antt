@@ -45,7 +45,7 @@ use Rattle.matrixcheck.specs.Given.{meaningGiven as matrixGiven}
 use Rattle.matrixwriter.specs.Writing.{writerRows as matrixRows}
 use Rattle.theorems.proofs.MatrixTrip.{writer-accepts as matrix-accepts}
 use Rattle.arraywriter.specs.Given.{meaningGiven as arrayGiven}
-use Rattle.arraywriter.proofs.RoundTrip.{writer-accepts as array-accepts}
+use Rattle.theorems.proofs.ArrayRoundTrip.{writer-accepts as array-accepts}
 use Rattle.theorems.specs.Paper.{PaperBy}
 use Rattle.listing.specs.Packed.{PackedBy}
 use Rattle.cmatrix.specs.Fields.{FieldsBy}

@@ -15,7 +15,7 @@ use Rattle.verdict.proofs.Deciding.{decided-kept}
 use Rattle.verdict.proofs.Judging.{Kept}
 use Rattle.verdict.proofs.Putting.{put-none, put-before}
 use Rattle.word.specs.Digits.{digits, valueOf}
-use Rattle.word.specs.Bytes.{wordAt, writerRows, Written}
+use Rattle.word.specs.Bytes.{wordAt, wordRows, Written}
 use Rattle.word.proofs.Digits.{length-digits}
 
 -- one byte more in the first of eight
@@ -89,14 +89,14 @@ module _ (out₀ : List ℕ) (place n word : ℕ) where
       let g = lt-ltb (length out₀ - place) n l in
       record { said = rw (e, f, g); left = rw (e, f, g) }
 
-  kept-rules : n ≤ 8 → word < 256 ^ n → n ≤ length out₀ - place → Kept (writerRows out₀ place n word)
+  kept-rules : n ≤ 8 → word < 256 ^ n → n ≤ length out₀ - place → Kept (wordRows out₀ place n word)
   kept-rules h k l = (le-ltb 8 n h, (lt-leb (256 ^ n) word k, (le-ltb (length out₀ - place) n l, tt)))
 
   pub stored-left : (out : List ℕ) → n ≤ 8 → word < 256 ^ n → n ≤ length out₀ - place → out ≡ put out₀ place (digits 256 n word) → Written out₀ place n word (Complete n) out
   stored-left out h k l p =
-      let e = decided-kept (writerRows out₀ place n word) (Complete (length (digits 256 n word))) (kept-rules h k l) in
+      let e = decided-kept (wordRows out₀ place n word) (Complete (length (digits 256 n word))) (kept-rules h k l) in
       record { said = rw e (ap Complete (sym (length-digits 256 n word))); left = rw e p }
 
   -- a word that fits is written where there is room
   pub fitting-written : (answer : Verdict) (out : List ℕ) → n ≤ 8 → word < 256 ^ n → n ≤ length out₀ - place → Written out₀ place n word answer out → out ≡ put out₀ place (digits 256 n word)
-  fitting-written answer out h k l w = w .left ∙ rw (decided-kept (writerRows out₀ place n word) (Complete (length (digits 256 n word))) (kept-rules h k l))
+  fitting-written answer out h k l w = w .left ∙ rw (decided-kept (wordRows out₀ place n word) (Complete (length (digits 256 n word))) (kept-rules h k l))

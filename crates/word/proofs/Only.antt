@@ -7,26 +7,15 @@ use denote.Ref.{now}
 use Rattle.verdict.proofs.OneAnswer.{OneAnswer}
 use Rattle.word.proofs.bytes.byte_at.Kinds as byte-at
 use Rattle.word.proofs.bytes.byte_at.Reads as byte-at-reads
-use Rattle.word.proofs.bytes.write_at.Kinds as write-at
-use Rattle.word.proofs.bytes.write_at.Reads as write-at-reads
 use Rattle.word.proofs.bytes.read_at.Kinds as read-at
 use Rattle.word.proofs.bytes.read_at.Reads as read-at-reads
 use Rattle.word.proofs.many.read_all.Kinds as read-all
 use Rattle.word.proofs.many.read_all.Reads as read-all-reads
-use Rattle.word.proofs.many.gather.Kinds as gather
-use Rattle.word.proofs.many.gather.Reads as gather-reads
-use Rattle.word.proofs.many.write_all.Kinds as write-all
-use Rattle.word.proofs.many.write_all.Reads as write-all-reads
+use Rattle.word.proofs.many.judge.Kinds as judge
+use Rattle.word.proofs.many.judge.Reads as judge-reads
 
 pub byte-at-only : OneAnswer byte-at.ps byte-at.r byte-at-reads.Post
 byte-at-only κs a x y s t p q = p .0 ∙ sym (q .0)
-
-pub write-at-only : OneAnswer write-at.ps write-at.r write-at-reads.Post
-write-at-only κs a x y s t p q = p .said ∙ sym (q .said)
-
-pub write-at-leaves : (κs : Lfts 1) (a : Dens κs write-at.ps) (x y : resT write-at.r κs .Denot) (s t : AtExit (endedOf 1 write-at.ps write-at.r) κs)
-    → write-at-reads.Post κs a x s → write-at-reads.Post κs a y t → now (s .0) ≡ now (t .0)
-write-at-leaves κs a x y s t p q = p .left ∙ sym (q .left)
 
 pub read-at-only : OneAnswer read-at.ps read-at.r read-at-reads.Post
 read-at-only κs a x y s t p q = p ∙ sym q
@@ -38,12 +27,5 @@ pub read-all-leaves : (κs : Lfts 2) (a : Dens κs read-all.ps) (x y : resT read
     → read-all-reads.Post κs a x s → read-all-reads.Post κs a y t → now (s .1 .1 .0) ≡ now (t .1 .1 .0)
 read-all-leaves κs a x y s t p q = p .left ∙ sym (q .left)
 
-pub gather-only : OneAnswer gather.ps gather.r gather-reads.Post
-gather-only κs a x y s t p q = p ∙ sym q
-
-pub write-all-only : OneAnswer write-all.ps write-all.r write-all-reads.Post
-write-all-only κs a x y s t p q = p .said ∙ sym (q .said)
-
-pub write-all-leaves : (κs : Lfts 2) (a : Dens κs write-all.ps) (x y : resT write-all.r κs .Denot) (s t : AtExit (endedOf 2 write-all.ps write-all.r) κs)
-    → write-all-reads.Post κs a x s → write-all-reads.Post κs a y t → now (s .0) ≡ now (t .0)
-write-all-leaves κs a x y s t p q = p .left ∙ sym (q .left)
+pub judge-only : OneAnswer judge.ps judge.r judge-reads.Post
+judge-only κs a x y s t p q = p ∙ sym q

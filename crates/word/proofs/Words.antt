@@ -131,29 +131,29 @@ put-whole : (out list : List ℕ) → length list ≡ length out → put out 0 l
 put-whole out list e = put-first out list ∙ rw (drop-of-length-le out (le-of-eq (sym e))) (append-nil list)
 
 -- the first i words of the bytes are read, and the place is that of the next
-pub record Gathered (out₀ bytes : List ℕ) (n place i : ℕ) (out : List ℕ) : Type 0 where
+pub record Taken (out₀ bytes : List ℕ) (n place i : ℕ) (out : List ℕ) : Type 0 where
   pub within : i ≤ length out₀
   pub here : place ≡ i * n
   pub is : out ≡ put out₀ 0 (wordsIn n i bytes)
 
 module _ (out₀ bytes : List ℕ) (n : ℕ) where
-  pub gathered-none : Gathered out₀ bytes n 0 0 out₀
+  pub taken-none : Taken out₀ bytes n 0 0 out₀
   unfolding wordsIn
-  gathered-none = record { within = omega arith; here = sym (zero-mul n); is = sym (put-none out₀ 0) }
+  taken-none = record { within = omega arith; here = sym (zero-mul n); is = sym (put-none out₀ 0) }
 
-  pub gathered-length : (place i : ℕ) (out : List ℕ) → Gathered out₀ bytes n place i out → length out ≡ length out₀
-  gathered-length place i out g = ap length (g .is) ∙ length-put out₀ 0 (wordsIn n i bytes) (omega (arith, length-words n i bytes, g .within))
+  pub taken-length : (place i : ℕ) (out : List ℕ) → Taken out₀ bytes n place i out → length out ≡ length out₀
+  taken-length place i out g = ap length (g .is) ∙ length-put out₀ 0 (wordsIn n i bytes) (omega (arith, length-words n i bytes, g .within))
 
-  pub gathered-room : (place i : ℕ) (out : List ℕ) → length bytes ≡ length out₀ * n → i < length out → Gathered out₀ bytes n place i out → place + n ≤ length bytes
-  gathered-room place i out whole h g =
-      let inside : suc i ≤ length out₀ = omega (arith, gathered-length place i out g) in
+  pub taken-room : (place i : ℕ) (out : List ℕ) → length bytes ≡ length out₀ * n → i < length out → Taken out₀ bytes n place i out → place + n ≤ length bytes
+  taken-room place i out whole h g =
+      let inside : suc i ≤ length out₀ = omega (arith, taken-length place i out g) in
       omega (arith, g .here, suc-mul i n, mul-le-mul-right n inside)
 
-  pub gathered-more : (place i : ℕ) (out : List ℕ) → i < length out → Gathered out₀ bytes n place i out
-      → Gathered out₀ bytes n (place + n) (i + 1) (set out i (wordAt bytes place n))
-  gathered-more place i out h g =
+  pub taken-more : (place i : ℕ) (out : List ℕ) → i < length out → Taken out₀ bytes n place i out
+      → Taken out₀ bytes n (place + n) (i + 1) (set out i (wordAt bytes place n))
+  taken-more place i out h g =
       let l : length (wordsIn n i bytes) ≡ i = length-words n i bytes in
-      let inside : i < length out₀ = omega (arith, gathered-length place i out g) in
+      let inside : i < length out₀ = omega (arith, taken-length place i out g) in
       record {
         within = omega arith;
         here = rw add-one (omega (arith, g .here, suc-mul i n));
@@ -162,9 +162,9 @@ module _ (out₀ bytes : List ℕ) (n : ℕ) where
             (rw (zero-add, l) at (put-more out₀ 0 (wordsIn n i bytes) (wordAt bytes (i * n) n) (omega arith)));
       }
 
-  pub gathered-all : (place i : ℕ) (out : List ℕ) → length out ≤ i → Gathered out₀ bytes n place i out → out ≡ wordsIn n (length out₀) bytes
-  gathered-all place i out h g =
-      let e : i ≡ length out₀ = omega (arith, g .within, gathered-length place i out g) in
+  pub taken-all : (place i : ℕ) (out : List ℕ) → length out ≤ i → Taken out₀ bytes n place i out → out ≡ wordsIn n (length out₀) bytes
+  taken-all place i out h g =
+      let e : i ≡ length out₀ = omega (arith, g .within, taken-length place i out g) in
       g .is ∙ rw e (put-whole out₀ (wordsIn n (length out₀) bytes) (length-words n (length out₀) bytes))
 
 -- the bytes of the first i words are put, and the place is that of the next

@@ -15,7 +15,7 @@ use Rattle.verdict.proofs.Deciding.{written-well}
 use Rattle.verdict.proofs.Putting.{drop-put}
 use Rattle.word.specs.declared.bytes.Read.the-variants.{Word, Unfinished, Refused}
 use Rattle.word.specs.Digits.{digits, valueOf}
-use Rattle.word.specs.Bytes.{wordAt, readOf, writerRows, Written}
+use Rattle.word.specs.Bytes.{wordAt, readOf, wordRows, Written}
 use Rattle.word.proofs.Digits.{Below, below-drop, length-digits, value-digits, digits-take}
 
 put-length : (out : List ℕ) (place n word : ℕ) → n ≤ length out - place → length (put out place (digits 256 n word)) ≡ length out
@@ -38,7 +38,7 @@ read-put out place n word short fits room =
 
 pub read-written : (out : List ℕ) (place n word k : ℕ) (out′ : List ℕ) → Written out place n word (Complete k) out′ → readOf out′ place n ≡ Word word
 read-written out place n word k out′ w =
-    let x = written-well (writerRows out place n word) (digits 256 n word) out place k out′ w in
+    let x = written-well (wordRows out place n word) (digits 256 n word) out place k out′ w in
     let room = ltb-false (length out - place) n (x .0 .1 .1 .0) in
     ap (λ (bs : List ℕ). readOf bs place n) (x .1 .1) ∙ read-put out place n word (ltb-false 8 n (x .0 .0)) (leb-false (256 ^ n) word (x .0 .1 .0)) room
 

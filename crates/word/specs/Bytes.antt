@@ -23,8 +23,8 @@ readOf bytes place n =
     (cond (ltb (length bytes - place) n) (ReadUnfinished (n - (length bytes - place))) (Word (wordAt bytes place n)))
 
 -- 6 above eight bytes; 11 for a word too long for its length; 13
-abbrev pub writerRows : List ℕ → ℕ → ℕ → ℕ → List Row
-writerRows out place n word =
+abbrev pub wordRows : List ℕ → ℕ → ℕ → ℕ → List Row
+wordRows out place n word =
     record { broken = ltb 8 n; reason = ValueLength }
     ∷ record { broken = leb (256 ^ n) word; reason = ValueRange }
     ∷ record { broken = ltb (length out - place) n; reason = SmallBuffer }
@@ -32,4 +32,4 @@ writerRows out place n word =
 
 -- what writing a word of n bytes at a place answers and leaves
 abbrev pub Written : List ℕ → ℕ → ℕ → ℕ → Verdict → List ℕ → Type 0
-Written out place n word = WrittenBy (writerRows out place n word) (digits 256 n word) out place
+Written out place n word = WrittenBy (wordRows out place n word) (digits 256 n word) out place

@@ -1,15 +1,12 @@
-// Words in bytes, first byte first: read at a place of the bytes, and written at one.
+// Words in bytes, first byte first, read at a place of the bytes.
 ghost use mathlib.Core.Path.{_≡_};
 ghost use mathlib.Core.List.{_++_};
-ghost use Prim.Native.Nat.{_-_, _≤_, _<_, _^_};
+ghost use Prim.Native.Nat.{_-_, _≤_, _<_};
 ghost use lib.ListN.{length as count, take, drop, getD, replicate};
-ghost use lib.Dec.{ltb};
-ghost use Rattle.verdict.specs.Writing.{put};
-ghost use Rattle.word.specs.Digits.{digits, valueOf};
-ghost use Rattle.word.specs.Bytes.{wordAt, readOf, Written};
+ghost use Rattle.word.specs.Digits.{valueOf};
+ghost use Rattle.word.specs.Bytes.{wordAt, readOf};
 use verdict::Reason;
 use verdict::Refusal;
-use verdict::Verdict;
 
 // What reading a word finds: the word, how many of its bytes are missing, or a refusal of its length.
 pub enum Read {
@@ -100,55 +97,4 @@ pub fn read_at(bytes: &[u8], place: usize, length: usize) -> Read
         return Read::Unfinished(length - there);
     }
     Read::Word(word_by_length(bytes, place, length))
-}
-
-// Whether a word fits in so many bytes.
-pub(crate) fn fits(word: u64, length: usize) -> bool
-    requires { ⌜ length ≤ 8 ⌝ }
-    ensures { λ r. ⌜ r ≡ ltb word (256 ^ length) ⌝ }
-{
-    if length == 8 {
-        return true;
-    }
-    word >> (8 * length) == 0
-}
-
-// The word's bytes, the last one first, at a place with room for them.
-pub(crate) fn put_at(out: &mut [u8], place: usize, length: usize, word: u64)
-    requires { ⌜ length ≤ count (now out) - place ⌝ }
-    ensures { λ _. ⌜ now (out .exit) ≡ put (now (out .entry)) place (digits 256 length word) ⌝ }
-{
-    let mut left = length;
-    let mut rest = word;
-    while 0 < left {
-        left -= 1;
-        out[place + left] = (rest % 256) as u8;
-        rest /= 256;
-    }
-}
-
-// A word written in `length` bytes at a place: the count of bytes, or a refusal that leaves `out` as it was.
-pub fn write_at(out: &mut [u8], place: usize, length: usize, word: u64) -> Verdict
-    ensures { λ r. ⌜ Written (now (out .entry)) place length word r (now (out .exit)) ⌝ }
-{
-    if 8 < length {
-        return Verdict::Refused(Refusal {
-            reason: Reason::ValueLength,
-            place: 0,
-        });
-    }
-    if !fits(word, length) {
-        return Verdict::Refused(Refusal {
-            reason: Reason::ValueRange,
-            place: 0,
-        });
-    }
-    if from_place(out.len(), place) < length {
-        return Verdict::Refused(Refusal {
-            reason: Reason::SmallBuffer,
-            place: 0,
-        });
-    }
-    put_at(out, place, length, word);
-    Verdict::Complete(length)
 }

@@ -1,12 +1,10 @@
-// Many words of one length, one after the other: read from bytes, and written over them, with one check for all.
+// Many words of one length, one after the other, read from bytes with one check for all.
 ghost use mathlib.Core.Path.{_≡_};
-ghost use Prim.Native.Nat.{_*_, _^_, _≤_};
+ghost use Prim.Native.Nat.{_*_, _≤_};
 ghost use lib.ListN.{length as count};
 ghost use lib.Dec.{eqb};
 ghost use Rattle.verdict.specs.Judgement.{judgement};
-ghost use Rattle.word.specs.Many.{wordsIn, bytesFor, allBelow, gathered, manyRows, writeRows, ReadInto, WrittenOver};
-use crate::bytes::fits;
-use crate::bytes::put_at;
+ghost use Rattle.word.specs.Many.{wordsIn, manyRows, ReadInto};
 use crate::bytes::word_in;
 use verdict::Judged;
 use verdict::Reason;
@@ -24,7 +22,7 @@ fn holds(bytes: usize, words: usize, length: usize) -> bool
 }
 
 // 6 above eight bytes, 14 where the bytes are not as many as the words have.
-fn judge(bytes: usize, words: usize, length: usize) -> Judged
+pub fn judge(bytes: usize, words: usize, length: usize) -> Judged
     ensures { λ r. ⌜ r ≡ judgement (manyRows length words bytes) ⌝ }
 {
     if 8 < length {
@@ -70,85 +68,6 @@ pub fn read_all(bytes: &[u8], length: usize, out: &mut [u64]) -> Verdict
     match judged {
         Judged::Kept => {
             read_by_length(bytes, length, out);
-            Verdict::Complete(out.len())
-        }
-        Judged::Broken(reason) => Verdict::Refused(Refusal { reason, place: 0 }),
-    }
-}
-
-// All the bits that any of the words has: no word is greater.
-pub fn gather(words: &[u64]) -> u64
-    ensures { λ r. ⌜ r ≡ gathered (now (words .entry)) ⌝ }
-{
-    let mut all: u64 = 0;
-    let mut i = 0;
-    while i < words.len() {
-        all = all | words[i];
-        i += 1;
-    }
-    all
-}
-
-// Whether each word fits in so many bytes; in eight every word does.
-fn all_fit(words: &[u64], length: usize) -> bool
-    requires { ⌜ length ≤ 8 ⌝ }
-    ensures { λ r. ⌜ r ≡ allBelow (256 ^ length) (now (words .entry)) ⌝ }
-{
-    if length == 8 {
-        return true;
-    }
-    fits(gather(words), length)
-}
-
-// 6 and 14 as for reading; 11 for a word too long for its length.
-fn judge_words(bytes: usize, words: &[u64], length: usize) -> Judged
-    ensures { λ r. ⌜ r ≡ judgement (writeRows length (now (words .entry)) bytes) ⌝ }
-{
-    let judged = judge(bytes, words.len(), length);
-    match judged {
-        Judged::Kept => {
-            if !all_fit(words, length) {
-                return Judged::Broken(Reason::ValueRange);
-            }
-            Judged::Kept
-        }
-        Judged::Broken(reason) => Judged::Broken(reason),
-    }
-}
-
-fn write_each(out: &mut [u8], length: usize, words: &[u64])
-    requires { ⌜ (length ≤ 8) × (count (now out) ≡ count (now words) * length) ⌝ }
-    ensures { λ _. ⌜ now (out .exit) ≡ bytesFor length (now (words .entry)) ⌝ }
-{
-    let mut place = 0;
-    let mut i = 0;
-    while i < words.len() {
-        put_at(out, place, length, words[i]);
-        place += length;
-        i += 1;
-    }
-}
-
-fn write_by_length(out: &mut [u8], length: usize, words: &[u64])
-    requires { ⌜ (length ≤ 8) × (count (now out) ≡ count (now words) * length) ⌝ }
-    ensures { λ _. ⌜ now (out .exit) ≡ bytesFor length (now (words .entry)) ⌝ }
-{
-    match length {
-        2 => write_each(out, 2, words),
-        4 => write_each(out, 4, words),
-        8 => write_each(out, 8, words),
-        _ => write_each(out, length, words),
-    }
-}
-
-// Words in `length` bytes each, over all of `out`: the count of bytes, or a refusal that leaves `out` as it was.
-pub fn write_all(out: &mut [u8], length: usize, words: &[u64]) -> Verdict
-    ensures { λ r. ⌜ WrittenOver (now (out .entry)) length (now (words .entry)) r (now (out .exit)) ⌝ }
-{
-    let judged = judge_words(out.len(), words, length);
-    match judged {
-        Judged::Kept => {
-            write_by_length(out, length, words);
             Verdict::Complete(out.len())
         }
         Judged::Broken(reason) => Verdict::Refused(Refusal { reason, place: 0 }),

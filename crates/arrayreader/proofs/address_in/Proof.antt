@@ -6,7 +6,7 @@ use lib.ListN.{getD}
 use denote.Ref.{now}
 use Rattle.array.specs.Meaning.{product, most}
 use Rattle.array.specs.Decoded.{meaningOf}
-use Rattle.array.proofs.Offsets.{count-outside, Begun, begun-none, begun-below, begun-outside, begun-next}
+use Rattle.array.proofs.Offsets.{count-outside, Summed, summed-none, summed-below, summed-outside, summed-next}
 use Rattle.array.proofs.Products.{product-positive}
 use Rattle.arrayreader.specs.Again.{AllPut}
 use Rattle.arrayreader.proofs.Answers.{refused-outside, offset-inside}
@@ -15,7 +15,7 @@ use Rattle.arrayreader.proofs.address_in.Statement.{statement}
 use Rattle.arrayreader.proofs.address_in.Tie as tie
 
 abbrev Inv-loop : tie.InvT-loop
-Inv-loop bytes dims element indices sizes offset₀ i₀ offset i = (i ≤ dims) × AllPut (meaningOf bytes .sizes) sizes × Begun (meaningOf bytes .sizes) indices i offset
+Inv-loop bytes dims element indices sizes offset₀ i₀ offset i = (i ≤ dims) × AllPut (meaningOf bytes .sizes) sizes × Summed (meaningOf bytes .sizes) indices i offset
 
 abbrev μ-loop : tie.MeasureT-loop
 μ-loop bytes dims element indices sizes offset₀ i₀ offset i = dims - i
@@ -35,7 +35,7 @@ loop-holds c =
     let s = c .before .before .before .before .before in
     let r = s .args in
     let a = meaningOf (now (r .bytes)) in
-    (omega arith, c .before .draw-again .ensures, begun-none (a .sizes) (now (r .indices)) (product-positive (a .sizes) (s .pre .0 .lawful .size-least)))
+    (omega arith, c .before .draw-again .ensures, summed-none (a .sizes) (now (r .indices)) (product-positive (a .sizes) (s .pre .0 .lawful .size-least)))
 
 -- an index has a place among the eight sizes
 place-there : (c : tie.In-loop Inv-loop μ-loop) → c .before .loop .i < 8
@@ -61,18 +61,18 @@ returns-2 c =
     let s = p .before .before .before .before .before .before in
     let a = meaningOf (now (s .args .bytes)) in
     let x = now (s .args .indices) in
-    refused-outside a x (begun-outside (a .sizes) x (l .i) (l .offset) (l .inv .2) (omega (arith, s .pre .0 .counted)) (omega arith) _ (l .inv .1 (l .i) (place-there k)) (c .if2 .taken))
+    refused-outside a x (summed-outside (a .sizes) x (l .i) (l .offset) (l .inv .2) (omega (arith, s .pre .0 .counted)) (omega arith) _ (l .inv .1 (l .i) (place-there k)) (c .if2 .taken))
 
 -- one index more
 next :
     (c : tie.Else2 Inv-loop μ-loop) → let p = c .before .before .before in let l = p .loop in let r = p .before .before .before .before .before .before .args in
-    Begun (meaningOf (now (r .bytes)) .sizes) (now (r .indices)) (l .i + 1) (l .offset * getD (p .before .before .draw-again .result .sizes) (l .i) 0 + getD (now (r .indices)) (l .i) 0)
+    Summed (meaningOf (now (r .bytes)) .sizes) (now (r .indices)) (l .i + 1) (l .offset * getD (p .before .before .draw-again .result .sizes) (l .i) 0 + getD (now (r .indices)) (l .i) 0)
 next c =
     let k = c .before .before in
     let p = k .before in
     let l = p .loop in
     let s = p .before .before .before .before .before .before in
-    begun-next (meaningOf (now (s .args .bytes)) .sizes) (now (s .args .indices)) (l .i) (l .offset) (l .inv .2) (omega (arith, s .pre .0 .counted)) (omega arith) (getD (p .before .before .draw-again .result .sizes) (l .i) 0) (l .inv .1 (l .i) (place-there k)) (c .if2 .left)
+    summed-next (meaningOf (now (s .args .bytes)) .sizes) (now (s .args .indices)) (l .i) (l .offset) (l .inv .2) (omega (arith, s .pre .0 .counted)) (omega arith) (getD (p .before .before .draw-again .result .sizes) (l .i) 0) (l .inv .1 (l .i) (place-there k)) (c .if2 .left)
 
 few :
     (c : tie.Else2 Inv-loop μ-loop) → let p = c .before .before .before in let l = p .loop in let r = p .before .before .before .before .before .before .args in
@@ -82,7 +82,7 @@ few c =
     let l = p .loop in
     let s = p .before .before .before .before .before .before in
     let x = now (s .args .indices) in
-    omega (arith, begun-below (meaningOf (now (s .args .bytes)) .sizes) x (l .i + 1) (l .offset * getD (p .before .before .draw-again .result .sizes) (l .i) 0 + getD x (l .i) 0) (next c), s .pre .0 .lawful .elements-most)
+    omega (arith, summed-below (meaningOf (now (s .args .bytes)) .sizes) x (l .i + 1) (l .offset * getD (p .before .before .draw-again .result .sizes) (l .i) 0 + getD x (l .i) 0) (next c), s .pre .0 .lawful .elements-most)
 
 mul-offset : tie.Need-mul-offset Inv-loop μ-loop
 mul-offset c = omega (arith, few c)
@@ -104,7 +104,7 @@ mul-t11 c =
     let l = c .before .loop in
     let s = c .before .before .before .before .before .before .before in
     let a = meaningOf (now (s .args .bytes)) in
-    let h : l .offset ≤ product (a .sizes) = omega (arith, begun-below (a .sizes) (now (s .args .indices)) (l .i) (l .offset) (l .inv .2)) in
+    let h : l .offset ≤ product (a .sizes) = omega (arith, summed-below (a .sizes) (now (s .args .indices)) (l .i) (l .offset) (l .inv .2)) in
     let k : l .offset * s .args .element ≤ product (a .sizes) * a .element = rw (s .pre .1) (mul-le-mul-right (a .element) h) in
     omega (arith, k, s .pre .0 .lawful .bytes-most)
 

@@ -64,7 +64,7 @@ use Rattle.number.proofs.draw.Met as draw-thm
 use Rattle.array.specs.Meaning.{most}
 use Rattle.arraywalk.specs.declared.Progress.{Progress}
 use Rattle.arraywalk.specs.declared.Sizing.{Sizing}
-use Rattle.arraywalk.specs.Walk.{DimsTo, SizingFrom, Takes, progressBehind, sizingOf, Going, Gone, Stands}
+use Rattle.arraywalk.specs.Parts.{DimsTo, SizingFrom, Takes, progressBehind, sizingOf, Going, Gone, Stands}
 use Rattle.arraywalk.proofs.Going.{draws, fewer, going-first, going-takes, going-next}
 use Rattle.arraywalk.proofs.Progress as P
 use Rattle.arraywalk.proofs.Progress.Laws as P′

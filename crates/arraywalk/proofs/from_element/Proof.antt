@@ -3,7 +3,7 @@ use mathlib.Core.Path.{_≡_, subst}
 use denote.Ref.{now}
 use borrow.Author.Needs.{needs}
 use Rattle.arraywalk.specs.declared.Heading.{Heading}
-use Rattle.arraywalk.specs.Walk.{HeadingFrom}
+use Rattle.arraywalk.specs.Parts.{HeadingFrom}
 use Rattle.arraywalk.proofs.from_element.Statement.{statement}
 use Rattle.arraywalk.proofs.from_element.Tie as tie
 

@@ -3,7 +3,7 @@ use mathlib.Core.Path.{_≡_, subst}
 use denote.Ref.{now}
 use borrow.Author.Needs.{needs}
 use Rattle.arraywalk.specs.declared.Sizing.{Sizing}
-use Rattle.arraywalk.specs.Walk.{SizingFrom}
+use Rattle.arraywalk.specs.Parts.{SizingFrom}
 use Rattle.arraywalk.proofs.from_sizes.Statement.{statement}
 use Rattle.arraywalk.proofs.from_sizes.Tie as tie
 

@@ -1,7 +1,7 @@
 -- `arraywalk::sizing_of` meets its contract: what was drawn last is the case of `sizingOf`. Assumes nothing.
 use mathlib.Core.Path.{sym, ap}
 use borrow.Author.Needs.{needs}
-use Rattle.arraywalk.specs.Walk.{sizingOf}
+use Rattle.arraywalk.specs.Parts.{sizingOf}
 use Rattle.arraywalk.proofs.sizing_of.Statement.{statement}
 use Rattle.arraywalk.proofs.sizing_of.Tie as tie
 

@@ -5,7 +5,7 @@ use native.Mathlib.Nat.{mul-le-mul-right}
 use native.Mathlib.Omega.{arith}
 use borrow.Author.Needs.{needs}
 use Rattle.array.specs.Meaning.{most}
-use Rattle.arraywalk.specs.Walk.{progressBehind}
+use Rattle.arraywalk.specs.Parts.{progressBehind}
 use Rattle.arraywalk.proofs.take_size.Statement.{statement}
 use Rattle.arraywalk.proofs.take_size.Tie as tie
 

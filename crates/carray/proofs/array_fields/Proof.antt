@@ -5,27 +5,6 @@ use Rattle.carray.proofs.Listing.{read-listed}
 use Rattle.carray.proofs.array_fields.Statement.{statement}
 use Rattle.carray.proofs.array_fields.Tie as tie
 
-read-requires : tie.Need-read-requires
-read-requires c κs = search needs
-
-field-numbers-requires : tie.Need-field-numbers-requires
-field-numbers-requires c κs = search needs
-
-said-requires : tie.Need-said-requires
-said-requires c κs = search needs
-
-slice-aggregate-list : tie.Need-slice-aggregate-list
-slice-aggregate-list c = search needs
-
-list-requires : tie.Need-list-requires
-list-requires c κs = search needs
-
-packed-requires : tie.Need-packed-requires
-packed-requires c κs = search needs
-
-same-length : tie.Need-same-length
-same-length c = search needs
-
 returns : tie.Need-returns
 returns c =
     let l = c .before .before .before in
@@ -43,11 +22,11 @@ pub array-fields-spec : {M : Type 1} → statement M
 array-fields-spec =
     tie.close
     (tie.spec
-    read-requires
-    field-numbers-requires
-    said-requires
-    slice-aggregate-list
-    list-requires
-    packed-requires
-    same-length
+    (λ c κs. search needs)
+    (λ c κs. search needs)
+    (λ c κs. search needs)
+    (λ c. search needs)
+    (λ c κs. search needs)
+    (λ c κs. search needs)
+    (λ c. search needs)
     returns)

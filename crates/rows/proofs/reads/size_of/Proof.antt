@@ -18,9 +18,6 @@ held-fits c = toZ-fits w64 (ofZ w64 (c .args .value)) (ofZ-fits w64 (c .args .va
 cast-result : tie.Need-cast-result
 cast-result c = above (held (c .before)) (held-fits (c .before)) (c .if1 .taken)
 
-returns : tie.Need-returns
-returns c = search needs
-
 sub-result : tie.Need-sub-result
 sub-result c = turned-fits (held (c .before)) (held-fits (c .before)) (c .if1 .left)
 
@@ -30,9 +27,6 @@ cast-result-2 c = turned-above (held (c .before)) (held-fits (c .before)) (c .if
 add-result : tie.Need-add-result
 add-result c = turned-more (held (c .before)) (held-fits (c .before)) (c .if1 .left)
 
-returns-2 : tie.Need-returns-2
-returns-2 c = search needs
-
 pub size-of-spec : {M : Type 1} → statement M
 size-of-spec =
-    tie.close (tie.spec cast-result returns sub-result cast-result-2 add-result returns-2)
+    tie.close (tie.spec cast-result (λ c. search needs) sub-result cast-result-2 add-result (λ c. search needs))

@@ -1,45 +1,15 @@
 -- `say::say_words` is safe and ends: the place stays within the list. Assumes nothing.
 use Prim.Native.Nat.{_-_, _≤_}
-use lib.ListN.{length as count}
+use lib.ListN.{length}
 use borrow.Author.Needs.{needs}
 use Rattle.rows.proofs.say.say_words.Statement.{statement}
 use Rattle.rows.proofs.say.say_words.Tie as tie
 
 abbrev Inv-loop : tie.InvT-loop
-Inv-loop text list i₀ t4 i = i ≤ count list
+Inv-loop name list i₀ i = i ≤ length list
 
 abbrev μ-loop : tie.MeasureT-loop
-μ-loop text list i₀ t4 i = count list - i
-
-write-all-requires : tie.Need-write-all-requires Inv-loop μ-loop
-write-all-requires c κs = search needs
-
-loop-holds : tie.Need-loop-holds Inv-loop μ-loop
-loop-holds c = search needs
-
-slice-aggregate-say : tie.Need-slice-aggregate-say Inv-loop μ-loop
-slice-aggregate-say c = search needs
-
-mul-say : tie.Need-mul-say Inv-loop μ-loop
-mul-say c = search needs
-
-shared-slice-read-say : tie.Need-shared-slice-read-say Inv-loop μ-loop
-shared-slice-read-say c = search needs
-
-say-requires : tie.Need-say-requires Inv-loop μ-loop
-say-requires c κs = search needs
-
-add-i : tie.Need-add-i Inv-loop μ-loop
-add-i c = search needs
-
-loop-less : tie.Need-loop-less Inv-loop μ-loop
-loop-less c = search needs
-
-loop-again : tie.Need-loop-again Inv-loop μ-loop
-loop-again c = search needs
-
-returns : tie.Need-returns Inv-loop μ-loop
-returns c = search needs
+μ-loop name list i₀ i = length list - i
 
 pub say-words-spec : {M : Type 1} → statement M
 say-words-spec =
@@ -47,13 +17,12 @@ say-words-spec =
     (tie.spec
     Inv-loop
     μ-loop
-    write-all-requires
-    loop-holds
-    slice-aggregate-say
-    mul-say
-    shared-slice-read-say
-    say-requires
-    add-i
-    loop-less
-    loop-again
-    returns)
+    (λ c κs. search needs)
+    (λ c. search needs)
+    (λ c. search needs)
+    (λ c. search needs)
+    (λ c κs. search needs)
+    (λ c. search needs)
+    (λ c. search needs)
+    (λ c. search needs)
+    (λ c. search needs))
