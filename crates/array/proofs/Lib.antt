@@ -2,7 +2,6 @@ pub mod Products
 pub mod Keeping
 pub mod Accepting
 pub mod Reasons
-pub mod Verdicts
 pub mod Decoding
 pub mod Complete
 pub mod Drawing

@@ -16,7 +16,7 @@ use Rattle.array.specs.Meaning.{Array, Lawful}
 use Rattle.array.specs.Spelling.{bytesOf}
 use Rattle.array.specs.Decoded.{meaningOf}
 use Rattle.array.specs.Machine.{verdictOf}
-use Rattle.array.proofs.Verdicts.{array-complete}
+use Rattle.theorems.proofs.ArrayVerdicts.{array-complete}
 use Rattle.array.proofs.Decoding.{meaning-back}
 use Rattle.array.proofs.Complete.{complete-meaning, complete-count}
 use Rattle.arraywriter.specs.Given.{meaningGiven, givenRows, writerRows}

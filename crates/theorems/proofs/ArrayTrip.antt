@@ -23,8 +23,7 @@ use Rattle.array.specs.Decoded.{meaningOf}
 use Rattle.array.specs.Offsets.{inside, offset}
 use Rattle.array.specs.Table.{Why}
 use Rattle.array.specs.Machine.{verdictOf}
-use Rattle.array.proofs.Verdicts.{array-said, array-complete}
-use Rattle.theorems.proofs.ArrayVerdicts.{array-only}
+use Rattle.theorems.proofs.ArrayVerdicts.{array-said, array-complete, array-only}
 use Rattle.array.proofs.Decoding.{meaning-back}
 use Rattle.array.proofs.Complete.{complete-meaning, complete-count}
 use Rattle.array.proofs.Offsets.{offset-below}

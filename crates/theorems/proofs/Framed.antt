@@ -23,7 +23,7 @@ use Rattle.matrix.proofs.Lengths.{matrix-short}
 use Rattle.array.specs.Spelling.{ArrayPack}
 use Rattle.array.specs.Table.{Why as ArrayWhy}
 use Rattle.array.specs.Machine.{verdictOf as arrayVerdict}
-use Rattle.array.proofs.Verdicts.{array-said, array-complete}
+use Rattle.theorems.proofs.ArrayVerdicts.{array-said, array-complete}
 use Rattle.array.proofs.Lengths.{array-short}
 use Rattle.outcome.specs.declared.Kind.{Kind}
 use Rattle.outcome.specs.declared.Kind.the-variants.{Matrix, Array, Unknown}

@@ -32,7 +32,7 @@ use Rattle.array.specs.Spelling.{bytesOf as arrayBytes}
 use Rattle.array.specs.Decoded.{meaningOf}
 use Rattle.array.specs.Offsets.{inside, offset}
 use Rattle.array.specs.Machine.{verdictOf as arrayVerdict}
-use Rattle.array.proofs.Verdicts.{array-said}
+use Rattle.theorems.proofs.ArrayVerdicts.{array-said}
 use Rattle.array.proofs.Lengths.{array-short}
 use Rattle.array.proofs.Complete.{complete-meaning}
 use Rattle.array.proofs.Offsets.{offset-below}

@@ -13,8 +13,7 @@ use Rattle.matrixreader.proofs.verdict.Kinds as matrix
 use Rattle.matrixreader.proofs.verdict.Reads as matrix-reads
 use Rattle.array.specs.Spelling.{ArrayPack}
 use Rattle.array.specs.Table.{Why as ArrayWhy}
-use Rattle.array.proofs.Verdicts.{array-said}
-use Rattle.theorems.proofs.ArrayVerdicts.{array-only}
+use Rattle.theorems.proofs.ArrayVerdicts.{array-said, array-only}
 use Rattle.arrayreader.proofs.verdict.Kinds as array
 use Rattle.arrayreader.proofs.verdict.Reads as array-reads
 

@@ -16,7 +16,7 @@ use Rattle.matrix.specs.Meaning.{sum}
 use Rattle.matrix.specs.Machine.{enter, runBytes, verdictOf}
 use Rattle.theorems.proofs.MatrixVerdicts.{matrix-said}
 use Rattle.array.specs.Machine.{verdictOf as arrayVerdictOf}
-use Rattle.array.proofs.Verdicts.{array-said}
+use Rattle.theorems.proofs.ArrayVerdicts.{array-said}
 use Rattle.theorems.specs.Rows.{Kind, matrix, array, Row, rows, SaysOf, Said}
 
 abbrev verdictBy : Kind → List ℕ → Verdict
