@@ -25,10 +25,11 @@ longest = 32832
 
 -- ---- the key
 
--- the keys of matrices and of arrays
+-- the key of matrices
 abbrev pub matrixKey : List ℕ
 matrixKey = 0x06 ∷ 0x0E ∷ 0x2B ∷ 0x34 ∷ 0x02 ∷ 0x05 ∷ 0x01 ∷ 0x01 ∷ 0x0E ∷ 0x01 ∷ 0x03 ∷ 0x03 ∷ 0x21 ∷ 0x00 ∷ 0x00 ∷ 0x00 ∷ []
 
+-- the key of arrays
 abbrev pub arrayKey : List ℕ
 arrayKey = 0x06 ∷ 0x0E ∷ 0x2B ∷ 0x34 ∷ 0x02 ∷ 0x05 ∷ 0x01 ∷ 0x01 ∷ 0x0E ∷ 0x01 ∷ 0x03 ∷ 0x03 ∷ 0x06 ∷ 0x00 ∷ 0x00 ∷ 0x00 ∷ []
 
@@ -39,6 +40,7 @@ same [] (y ∷ ys) = false
 same (x ∷ xs) [] = false
 same (x ∷ xs) (y ∷ ys) = eqb x y && same xs ys
 
+-- the kind that a key names
 abbrev pub kindOf : List ℕ → Kind
 kindOf key = cond (same key matrixKey) Matrix (cond (same key arrayKey) Array Unknown)
 

@@ -13,6 +13,7 @@ use Rattle.verdict.specs.Writing.{roomRows, WrittenBy}
 abbrev pub isDigit : ℕ → Bool
 isDigit c = (leb 48 c && leb c 57) || (leb 65 c && leb c 70)
 
+-- the value of a digit
 abbrev pub digitOf : ℕ → ℕ
 digitOf c = cond (leb c 57) (c - 48) (c - 55)
 

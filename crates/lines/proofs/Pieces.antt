@@ -9,9 +9,7 @@ use lib.Dec.{eqb}
 use lib.ListN.{length, take, getD}
 use lib.Seq.{length-take-le}
 use Rattle.verdict.specs.declared.Reason.the-variants.{SmallBuffer}
-use Rattle.verdict.specs.declared.Refusal.{Refusal}
 use Rattle.verdict.proofs.Cases.{either}
-use Rattle.lines.specs.declared.Taking.{Taking}
 use Rattle.lines.specs.declared.Taking.the-variants.{Took, Refused}
 use Rattle.lines.specs.Taking.{longestLine, pieceOf, keptAll, heldAll, TakenBy}
 use Rattle.lines.specs.Searching.{Piece}
@@ -64,32 +62,3 @@ module _ (held : ℕ) (chunk buffer : List ℕ) where
   piece-taken l to held′ buffer′ p b h =
       let t = le-ltb (length buffer) longestLine l in
       record { said = rw (t, found-count chunk to p, h); left = rw (t, found chunk to p) b }
-
--- an answer other than 13 says how many characters were taken, and how many are held
-pub record Taken (held : ℕ) (chunk buffer : List ℕ) (held′ count : ℕ) (buffer′ : List ℕ) : Type 0 where
-  pub counted : count ≡ length (pieceOf chunk)
-  pub holds : held′ ≡ heldAll held (length (pieceOf chunk))
-  pub keeps : buffer′ ≡ keptAll buffer held (pieceOf chunk)
-
-abbrev heldIn : Taking → ℕ
-heldIn (Took held count) = held
-heldIn (Refused refusal) = 0
-
-abbrev countIn : Taking → ℕ
-countIn (Took held count) = count
-countIn (Refused refusal) = 0
-
-module _ (held : ℕ) (chunk buffer : List ℕ) where
-  pub taken-all : (held′ count : ℕ) (buffer′ : List ℕ) → longestLine ≤ length buffer → TakenBy held chunk buffer (Took held′ count) buffer′ → Taken held chunk buffer held′ count buffer′
-  taken-all held′ count buffer′ l p =
-      let t = le-ltb (length buffer) longestLine l in
-      let s : Took held′ count ≡ Took (heldAll held (length (pieceOf chunk))) (length (pieceOf chunk)) = p .said ∙ rw t in
-      record { counted = ap countIn s; holds = ap heldIn s; keeps = p .left ∙ rw t }
-
-  -- where the line buffer is long enough there is no other
-  pub taken-some : (refusal : Refusal) (buffer′ : List ℕ) → longestLine ≤ length buffer → TakenBy held chunk buffer (Refused refusal) buffer′ → ⊥
-  taken-some refusal buffer′ l p =
-      let t = le-ltb (length buffer) longestLine l in
-      let s : Refused refusal ≡ Took (heldAll held (length (pieceOf chunk))) (length (pieceOf chunk)) = p .said ∙ rw t in
-      let z : _≡_ {A = ℕ} 0 1 = cc in
-      omega arith

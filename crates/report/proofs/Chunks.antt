@@ -13,15 +13,16 @@ use Rattle.report.specs.declared.feed.State.{State}
 use Rattle.report.specs.declared.feed.Going.{Going}
 use Rattle.report.specs.declared.feed.Feeding.{Feeding}
 use Rattle.report.specs.declared.feed.Feeding.the-variants.{Fed as FedCase, Refused}
+use Rattle.lines.specs.declared.Taking.{Taking}
 use Rattle.lines.specs.declared.Taking.the-variants.{Took}
 use Rattle.lines.specs.Taking.{longestLine, pieceOf, kept, heldOn, keptAll, heldAll, TakenBy}
-use Rattle.lines.proofs.Pieces.{piece-none, piece-more, piece-within, piece-stops, Taken, taken-all}
+use Rattle.lines.proofs.Pieces.{piece-none, piece-more, piece-within, piece-stops}
 use Rattle.text.specs.Text.{textOf}
 use Rattle.verdict.specs.Writing.{put}
 use Rattle.text.specs.Writing.{room}
 use Rattle.report.specs.Line.{nextNumber}
 use Rattle.report.specs.Feeding.{heldAnswer, Came, behind, nothing, cameOf, answerFor, Fed, Kept, tooSmall, FedBy}
-use Rattle.report.specs.Passing.{further, Sofar, Closed}
+use Rattle.report.specs.Passing.{further, Sofar, Closed, heldIn, pieceIn}
 use Rattle.verdict.proofs.Putting.{put-none, put-put, length-put}
 use Rattle.verdict.proofs.Cases.{either, by-test}
 
@@ -66,11 +67,22 @@ module _ (chunk : List ℕ) where
     unfolding cameOf
     came-close h e r = let n : to + 1 ≡ suc to = omega arith in rw (drop-cons chunk to 0 h, eq-eqb (getD chunk to 0) 10 e, le-ltb left room r, n) (behind-further (textOf number (heldAnswer buffer held)) _)
 
--- what is taken of a chunk is within it
-pub piece-to : (chunk : List ℕ) (at : Going) (buffer : List ℕ) → at .taken ≤ length chunk → longestLine ≤ length buffer → (held′ count : ℕ) (buffer′ : List ℕ) → TakenBy (at .held) (drop (at .taken) chunk) buffer (Took held′ count) buffer′
-    → at .taken + count ≤ length chunk
-piece-to chunk at buffer far l held′ count buffer′ p =
-    omega (arith, taken-all (at .held) (drop (at .taken) chunk) buffer held′ count buffer′ l p .counted, piece-within (drop (at .taken) chunk), length-drop (at .taken) chunk)
+-- what is taken of a chunk: how many characters, how many are held, and the line buffer
+pub record Taken (held : ℕ) (chunk buffer : List ℕ) (held′ count : ℕ) (buffer′ : List ℕ) : Type 0 where
+  pub counted : count ≡ length (pieceOf chunk)
+  pub holds : held′ ≡ heldAll held (length (pieceOf chunk))
+  pub keeps : buffer′ ≡ keptAll buffer held (pieceOf chunk)
+
+pub taken-all : (held : ℕ) (chunk buffer : List ℕ) (answer : Taking) (buffer′ : List ℕ) → longestLine ≤ length buffer → TakenBy held chunk buffer answer buffer′ → (held′ count : ℕ) → held′ ≡ heldIn answer → count ≡ pieceIn answer
+    → Taken held chunk buffer held′ count buffer′
+taken-all held chunk buffer answer buffer′ l p held′ count h c =
+    let t = le-ltb (length buffer) longestLine l in
+    let s : answer ≡ Took (heldAll held (length (pieceOf chunk))) (length (pieceOf chunk)) = p .said ∙ rw t in
+    record { counted = c ∙ ap pieceIn s; holds = h ∙ ap heldIn s; keeps = p .left ∙ rw t }
+
+-- it is within the chunk
+pub taken-to : (chunk : List ℕ) (at : Going) (buffer : List ℕ) → at .taken ≤ length chunk → (held′ count : ℕ) (buffer′ : List ℕ) → Taken (at .held) (drop (at .taken) chunk) buffer held′ count buffer′ → at .taken + count ≤ length chunk
+taken-to chunk at buffer far held′ count buffer′ took = omega (arith, took .counted, piece-within (drop (at .taken) chunk), length-drop (at .taken) chunk)
 
 module _ (state : State) (chunk buffer₀ out₀ : List ℕ) where
   pub sofar-none : Sofar state chunk buffer₀ out₀ (record { number = state .number; held = state .held; taken = 0; written = 0; more = true }) buffer₀ out₀
@@ -100,15 +112,12 @@ module _ (state : State) (chunk buffer₀ out₀ : List ℕ) where
           wrote = z .wrote ∙ ap (put out₀ 0) (sym (ap (λ (x : Came). x .text) c ∙ t));
         }
 
-    module _ (m : at .more ≡ true) (count held′ : ℕ) (buffer′ : List ℕ) (l : longestLine ≤ length buffer) (p : TakenBy (at .held) (drop (at .taken) chunk) buffer (Took held′ count) buffer′) where
+    module _ (m : at .more ≡ true) (held′ count : ℕ) (buffer′ : List ℕ) (took : Taken (at .held) (drop (at .taken) chunk) buffer held′ count buffer′) where
       abbrev to : ℕ
       to = at .taken + count
 
-      took : Taken (at .held) (drop (at .taken) chunk) buffer held′ count buffer′
-      took = taken-all (at .held) (drop (at .taken) chunk) buffer held′ count buffer′ l p
-
       within : to ≤ length chunk
-      within = piece-to chunk at buffer (z .far) l held′ count buffer′ p
+      within = taken-to chunk at buffer (z .far) held′ count buffer′ took
 
       stops : to < length chunk → getD chunk to 0 ≡ 10
       stops h =
@@ -161,13 +170,17 @@ module _ (state : State) (chunk buffer₀ out₀ : List ℕ) where
                 ∙ further-further to 1 (z .text) line _ ∙ rw left;
           }
 
+or-none : (a b : Bool) → a || b ≡ false → (a ≡ false) × (b ≡ false)
+or-none false b e = (refl, e)
+or-none true b e = absurd (false≢true (sym e))
+
 -- otherwise LF stands there, and there is room
 pub goes-on : (to end left : ℕ) → to ≤ end → eqb to end || ltb left room ≡ false → (to < end) × (room ≤ left)
 goes-on to end left h t = let both = or-none (eqb to end) (ltb left room) t in (omega (arith, eqb-false to end (both .0)), ltb-false left room (both .1))
-  where
-    or-none : (a b : Bool) → a || b ≡ false → (a ≡ false) × (b ≡ false)
-    or-none false b e = (refl, e)
-    or-none true b e = absurd (false≢true (sym e))
+
+-- where 13 is not answered, the line buffer holds the longest line
+pub line-long : (buffer out : List ℕ) → tooSmall buffer out ≡ false → longestLine ≤ length buffer
+line-long buffer out t = ltb-false (length buffer) longestLine (or-none (ltb (length buffer) longestLine) (ltb (length out) room) t .0)
 
 -- at least so many passes are left
 abbrev pub left : List ℕ → Going → ℕ
@@ -178,17 +191,11 @@ left-less chunk at next m n h = rw m (by-test (λ (k : ℕ). k < suc (length chu
 
 -- refused 13, or fed
 module _ (state : State) (chunk buffer out : List ℕ) where
-  refused-kept : tooSmall buffer out ≡ true → FedBy state chunk buffer out (Refused (record { reason = SmallBuffer; place = 0 })) buffer out
+  pub refused-kept : tooSmall buffer out ≡ true → FedBy state chunk buffer out (Refused (record { reason = SmallBuffer; place = 0 })) buffer out
   refused-kept t = rw t (record { said = refl; keeps = refl; wrote = refl })
 
-  pub line-small : length buffer < longestLine → FedBy state chunk buffer out (Refused (record { reason = SmallBuffer; place = 0 })) buffer out
-  line-small h = refused-kept (rw (lt-ltb (length buffer) longestLine h))
-
-  pub output-small : longestLine ≤ length buffer → length out < room → FedBy state chunk buffer out (Refused (record { reason = SmallBuffer; place = 0 })) buffer out
-  output-small l h = refused-kept (rw (le-ltb (length buffer) longestLine l, lt-ltb (length out) room h))
-
-  pub fed-by : longestLine ≤ length buffer → room ≤ length out → (answer : Feeding) (buffer′ out′ : List ℕ) → Fed state chunk buffer out answer buffer′ out′ → FedBy state chunk buffer out answer buffer′ out′
-  fed-by l h answer buffer′ out′ f = rw (le-ltb (length buffer) longestLine l, le-ltb (length out) room h) f
+  pub fed-by : tooSmall buffer out ≡ false → (answer : Feeding) (buffer′ out′ : List ℕ) → Fed state chunk buffer out answer buffer′ out′ → FedBy state chunk buffer out answer buffer′ out′
+  fed-by t answer buffer′ out′ f = rw t f
 
 -- one answer, and one state of the line buffer and of the output
 pub record Same (answer answer₁ : Feeding) (buffer buffer₁ out out₁ : List ℕ) : Type 0 where

@@ -18,16 +18,19 @@ use Rattle.outcome.specs.declared.FrameAnswer.{FrameAnswer}
 use Rattle.text.specs.Text.{textOf}
 use Rattle.text.specs.Writing.{room, WrittenLine}
 use Rattle.text.proofs.Decimals.{decimal-short}
-use Rattle.text.proofs.Lines.{length-text, line-left, line-counted}
+use Rattle.text.proofs.Lines.{length-text, line-left, line-written}
 use Rattle.report.specs.declared.feed.State.{State}
 use Rattle.report.specs.Feeding.{heldAnswer, openHeld, Finished}
-use Rattle.report.specs.Passing.{Closed}
+use Rattle.report.specs.Passing.{Closed, countIn}
 
 -- where any line has room, the line that is held is closed
 module _ (number : ℕ) (answer : FrameAnswer) (out : List ℕ) (place : ℕ) (verdict : Verdict) (out′ : List ℕ) (h : place + room ≤ length out) (w : WrittenLine number answer out place verdict out′) where
-  pub line-closed : (buffer : List ℕ) (held : ℕ) → answer ≡ heldAnswer buffer held → (n : ℕ) → verdict ≡ Complete n → Closed number buffer held out place (place + n) out′
+  pub written-few : countIn verdict ≤ room
+  written-few = omega (arith, ap countIn (line-written number answer out place verdict out′ h w), w .short)
+
+  pub line-closed : (buffer : List ℕ) (held : ℕ) → answer ≡ heldAnswer buffer held → (n : ℕ) → n ≡ countIn verdict → Closed number buffer held out place (place + n) out′
   line-closed buffer held a n e =
-      let m : n ≡ length (textOf number answer) = line-counted number answer out place verdict out′ h w n e in
+      let m : n ≡ length (textOf number answer) = e ∙ ap countIn (line-written number answer out place verdict out′ h w) in
       record {
         short = subst (λ (x : FrameAnswer). length (textOf number x) ≤ room) a (w .short);
         behind = ap (λ (k : ℕ). place + k) m ∙ ap (λ (x : FrameAnswer). place + length (textOf number x)) a;

@@ -12,9 +12,9 @@ use Rattle.text.specs.Text.{textOf}
 use Rattle.text.specs.Writing.{room}
 use Rattle.report.specs.declared.feed.State.{State}
 use Rattle.report.specs.declared.feed.Feeding.{Feeding}
-use Rattle.report.specs.declared.feed.Feeding.the-variants.{Fed as FedCase, Refused}
 use Rattle.report.specs.Line.{nextNumber}
 use Rattle.report.specs.Feeding.{heldAnswer, Came, cameOf, Fed, Kept, tooSmall, FedBy}
+use Rattle.report.specs.Passing.{takenIn}
 
 -- what came of a chunk took no more characters than there are
 pub came-within : (chunk : List ℕ) (number held left : ℕ) (buffer : List ℕ) → cameOf number held buffer left chunk .taken ≤ length chunk
@@ -26,19 +26,10 @@ came-within (c ∷ chunk) number held left buffer =
     (λ _. by-test (λ (came : Came). came .taken ≤ suc (length chunk)) (ltb left room) _ _ (λ _. omega arith) (λ _. omega (arith, came-within chunk (nextNumber number) 0 (left - length text) buffer)))
     (λ _. omega (arith, came-within chunk number (heldOn held) left (kept buffer held c)))
 
--- how much was taken and written
-abbrev pub takenIn : Feeding → ℕ
-takenIn (FedCase state taken written) = taken
-takenIn (Refused refusal) = 0
-
-abbrev pub writtenIn : Feeding → ℕ
-writtenIn (FedCase state taken written) = written
-writtenIn (Refused refusal) = 0
-
--- a call that is not refused takes no more than there is
-pub fed-within : (state : State) (chunk buffer out : List ℕ) (next : State) (taken written : ℕ) (buffer′ out′ : List ℕ) → FedBy state chunk buffer out (FedCase next taken written) buffer′ out′ → taken ≤ length chunk
-fed-within state chunk buffer out next taken written buffer′ out′ = go (tooSmall buffer out)
+-- a call takes no more than there is
+pub fed-within : (state : State) (chunk buffer out : List ℕ) (answer : Feeding) (buffer′ out′ : List ℕ) → FedBy state chunk buffer out answer buffer′ out′ → takenIn answer ≤ length chunk
+fed-within state chunk buffer out answer buffer′ out′ = go (tooSmall buffer out)
   where
-    go : (t : Bool) → cond t (Kept buffer out (FedCase next taken written) buffer′ out′) (Fed state chunk buffer out (FedCase next taken written) buffer′ out′) → taken ≤ length chunk
+    go : (t : Bool) → cond t (Kept buffer out answer buffer′ out′) (Fed state chunk buffer out answer buffer′ out′) → takenIn answer ≤ length chunk
     go true k = omega (arith, ap takenIn (k .said))
     go false f = omega (arith, ap takenIn (f .said), came-within chunk (state .number) (state .held) (length out) buffer)

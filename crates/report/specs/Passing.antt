@@ -5,21 +5,28 @@ use mathlib.Core.Bool.{true, cond}
 use mathlib.Core.List.{List, _++_}
 use lib.ListN.{length, drop}
 use Rattle.verdict.specs.Writing.{put}
+use Rattle.verdict.specs.declared.Verdict.{Verdict}
+use Rattle.verdict.specs.declared.Verdict.the-variants.{Complete, Unfinished, Refused as VerdictRefused}
+use Rattle.lines.specs.declared.Taking.{Taking}
+use Rattle.lines.specs.declared.Taking.the-variants.{Took, Refused as TakingRefused}
 use Rattle.lines.specs.Taking.{longestLine}
 use Rattle.text.specs.Text.{textOf}
 use Rattle.text.specs.Writing.{room}
 use Rattle.report.specs.declared.feed.State.{State}
 use Rattle.report.specs.declared.feed.Going.{Going}
+use Rattle.report.specs.declared.feed.Feeding.{Feeding}
+use Rattle.report.specs.declared.feed.Feeding.the-variants.{Fed as FedCase, Refused as FeedingRefused}
 use Rattle.report.specs.Feeding.{heldAnswer, Came, nothing, cameOf}
 
 -- what came, behind so many characters and this text
 abbrev pub further : ℕ → List ℕ → Came → Came
 further taken text came = record { number = came .number; held = came .held; buffer = came .buffer; text = text ++ came .text; taken = taken + came .taken }
 
--- how far a chunk was fed: what came so far, and what is still to come, which is nothing where it goes no further
+-- what is still to come of a chunk: nothing where it goes no further
 abbrev pub rest : Going → List ℕ → ℕ → List ℕ → Came
 rest at buffer left chunk = cond (at .more) (cameOf (at .number) (at .held) buffer left chunk) (nothing (at .number) (at .held) buffer)
 
+-- how far a chunk was fed: what came so far, and what is still to come
 pub record Sofar (state : State) (chunk buffer₀ out₀ : List ℕ) (at : Going) (buffer out : List ℕ) : Type 0 where
   pub text : List ℕ
   pub counted : length text ≡ at .written
@@ -46,3 +53,24 @@ pub record Closed (number : ℕ) (buffer : List ℕ) (held : ℕ) (out : List �
   pub short : length (textOf number (heldAnswer buffer held)) ≤ room
   pub behind : next ≡ place + length (textOf number (heldAnswer buffer held))
   pub wrote : out′ ≡ put out place (textOf number (heldAnswer buffer held))
+
+-- how many characters are held behind a piece
+abbrev pub heldIn : Taking → ℕ
+heldIn (Took held count) = held
+heldIn (TakingRefused refusal) = 0
+
+-- how many characters it has
+abbrev pub pieceIn : Taking → ℕ
+pieceIn (Took held count) = count
+pieceIn (TakingRefused refusal) = 0
+
+-- how many bytes were written
+abbrev pub countIn : Verdict → ℕ
+countIn (Complete count) = count
+countIn (Unfinished missing) = 0
+countIn (VerdictRefused refusal) = 0
+
+-- how much of a chunk was taken
+abbrev pub takenIn : Feeding → ℕ
+takenIn (FedCase state taken written) = taken
+takenIn (FeedingRefused refusal) = 0

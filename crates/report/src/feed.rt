@@ -5,8 +5,8 @@ ghost use lib.ListN.{length};
 ghost use Rattle.text.specs.Writing.{room};
 ghost use Rattle.lines.specs.Taking.{longestLine};
 ghost use Rattle.report.specs.Line.{nextNumber};
-ghost use Rattle.report.specs.Feeding.{heldAnswer, Fed, FedBy, Finished};
-ghost use Rattle.report.specs.Passing.{Closed, Goes, Onward};
+ghost use Rattle.report.specs.Feeding.{heldAnswer, FedBy, Finished};
+ghost use Rattle.report.specs.Passing.{Closed, Goes, Onward, heldIn, pieceIn, countIn};
 use frame::examine::examine;
 use hex::decode;
 use lines::LINE;
@@ -73,6 +73,17 @@ fn next_number(number: u64) -> u64
     number + 1
 }
 
+// How many bytes were written.
+fn count_in(verdict: Verdict) -> usize
+    ensures { λ r. ⌜ r ≡ countIn verdict ⌝ }
+{
+    match verdict {
+        Verdict::Complete(count) => count,
+        Verdict::Unfinished(_) => 0,
+        Verdict::Refused(_) => 0,
+    }
+}
+
 // Writes the report line of the line that is held: the place behind it.
 fn close(
     number: u64,
@@ -87,11 +98,7 @@ fn close(
 {
     let answer = held_answer(line, held, bytes);
     let written = write_line(number, answer, out, place);
-    match written {
-        Verdict::Complete(count) => place + count,
-        Verdict::Unfinished(_) => place,
-        Verdict::Refused(_) => place,
-    }
+    place + count_in(written)
 }
 
 // How far a chunk was fed: the state, what was taken and written, and whether it goes further.
@@ -103,6 +110,26 @@ struct Going {
     more: bool,
 }
 
+// How many characters are held behind a piece.
+fn held_in(piece: Taking) -> usize
+    ensures { λ r. ⌜ r ≡ heldIn piece ⌝ }
+{
+    match piece {
+        Taking::Took { held, count: _ } => held,
+        Taking::Refused(_) => 0,
+    }
+}
+
+// How many characters it has.
+fn piece_in(piece: Taking) -> usize
+    ensures { λ r. ⌜ r ≡ pieceIn piece ⌝ }
+{
+    match piece {
+        Taking::Took { held: _, count } => count,
+        Taking::Refused(_) => 0,
+    }
+}
+
 // The characters before the next LF are kept, and their line closed, where LF stands behind them and there is room for any report line.
 fn pass(at: Going, chunk: &[u8], line: &mut [u8], bytes: &mut [u8], out: &mut [u8]) -> Going
     requires { ⌜ Goes at (now chunk) (now line) (now bytes) (now out) ⌝ }
@@ -112,36 +139,37 @@ fn pass(at: Going, chunk: &[u8], line: &mut [u8], bytes: &mut [u8], out: &mut [u
     let taken = at.taken;
     let written = at.written;
     let piece = take_piece(at.held, &chunk[taken..], line);
-    match piece {
-        Taking::Took { held, count } => {
-            let to = taken + count;
-            if (to == chunk.len()) | (out.len() - written < ROOM) {
-                return Going {
-                    number,
-                    held,
-                    taken: to,
-                    written,
-                    more: false,
-                };
-            }
-            let behind = close(number, line, held, bytes, out, written);
-            Going {
-                number: next_number(number),
-                held: 0,
-                taken: to + 1,
-                written: behind,
-                more: true,
-            }
-        }
-        Taking::Refused(_) => at,
+    let held = held_in(piece);
+    let to = taken + piece_in(piece);
+    if (to == chunk.len()) | (out.len() - written < ROOM) {
+        return Going {
+            number,
+            held,
+            taken: to,
+            written,
+            more: false,
+        };
+    }
+    let behind = close(number, line, held, bytes, out, written);
+    Going {
+        number: next_number(number),
+        held: 0,
+        taken: to + 1,
+        written: behind,
+        more: true,
     }
 }
 
-// A chunk, where the buffers are long enough.
-fn feed_all(state: State, chunk: &[u8], line: &mut [u8], out: &mut [u8]) -> Feeding
-    requires { ⌜ (longestLine ≤ length (now line)) × (room ≤ length (now out)) ⌝ }
-    ensures { λ r. ⌜ Fed state (now (chunk .entry)) (now (line .entry)) (now (out .entry)) r (now (line .exit)) (now (out .exit)) ⌝ }
+// Feeds a chunk of the input: writes the report line of each line that it closes, as long as `out` has room for any, and keeps the open line in `line`.
+pub fn feed(state: State, chunk: &[u8], line: &mut [u8], out: &mut [u8]) -> Feeding
+    ensures { λ r. ⌜ FedBy state (now (chunk .entry)) (now (line .entry)) (now (out .entry)) r (now (line .exit)) (now (out .exit)) ⌝ }
 {
+    if (line.len() < LINE) | (out.len() < ROOM) {
+        return Feeding::Refused(Refusal {
+            reason: Reason::SmallBuffer,
+            place: 0,
+        });
+    }
     let mut bytes = [0u8; 32832];
     let mut at = Going {
         number: state.number,
@@ -161,25 +189,6 @@ fn feed_all(state: State, chunk: &[u8], line: &mut [u8], out: &mut [u8]) -> Feed
         taken: at.taken,
         written: at.written,
     }
-}
-
-// Feeds a chunk of the input: writes the report line of each line that it closes, as long as `out` has room for any, and keeps the open line in `line`.
-pub fn feed(state: State, chunk: &[u8], line: &mut [u8], out: &mut [u8]) -> Feeding
-    ensures { λ r. ⌜ FedBy state (now (chunk .entry)) (now (line .entry)) (now (out .entry)) r (now (line .exit)) (now (out .exit)) ⌝ }
-{
-    if line.len() < LINE {
-        return Feeding::Refused(Refusal {
-            reason: Reason::SmallBuffer,
-            place: 0,
-        });
-    }
-    if out.len() < ROOM {
-        return Feeding::Refused(Refusal {
-            reason: Reason::SmallBuffer,
-            place: 0,
-        });
-    }
-    feed_all(state, chunk, line, out)
 }
 
 // Behind the last chunk: the report line of an open last line, if there is one.

@@ -6,10 +6,9 @@ use mathlib.Core.List.{List}
 use native.Mathlib.Omega.{arith}
 use borrow.Author.Tests.{le-leb, lt-leb, ne-eqb}
 use lib.ListN.{length, take, drop, length-take}
-use Rattle.report.specs.declared.feed.State.{State}
 use Rattle.report.specs.declared.feed.Feeding.{Feeding}
-use Rattle.report.specs.declared.feed.Feeding.the-variants.{Fed}
 use Rattle.report.specs.Feeding.{FedBy}
+use Rattle.report.specs.Passing.{takenIn}
 use Rattle.report.proofs.Progress.{fed-within}
 use Rattle.shelfwork.specs.declared.Ask.the-variants.{Read}
 use Rattle.shelfwork.specs.declared.Work.{Work}
@@ -27,13 +26,11 @@ module _ (work : Work) (chunk line out : List ℕ) (end : ℕ) (e : end ≡ chun
         (record { answer = answer; feeds = subst (λ (k : ℕ). FedBy (work .state) (take (k - work .fed) (drop (work .fed) chunk)) line out answer line′ out′) e f; stands = w })
 
     -- what was fed is within the chunk
-    pub fed-fits : (answer : Feeding) (next : State) (taken written : ℕ) (line′ out′ : List ℕ) → answer ≡ Fed next taken written → FedBy (work .state) (take (end - work .fed) (drop (work .fed) chunk)) line out answer line′ out′
-        → work .fed + taken ≤ length chunk
-    fed-fits answer next taken written line′ out′ a f =
+    pub fed-fits : (answer : Feeding) (line′ out′ : List ℕ) → FedBy (work .state) (take (end - work .fed) (drop (work .fed) chunk)) line out answer line′ out′ → work .fed + takenIn answer ≤ length chunk
+    fed-fits answer line′ out′ f =
         let part = take (end - work .fed) (drop (work .fed) chunk) in
-        let g : FedBy (work .state) part line out (Fed next taken written) line′ out′ = subst (λ (x : Feeding). FedBy (work .state) part line out x line′ out′) a f in
         let l : length part ≤ end - work .fed = omega (arith, length-take (end - work .fed) (drop (work .fed) chunk)) in
-        omega (arith, l, fed-within (work .state) part line out next taken written line′ out′ g)
+        omega (arith, l, fed-within (work .state) part line out answer line′ out′ f)
 
 -- behind a write, by whether the input ended
 module _ (work : Work) (chunk line out : List ℕ) (work′ : Work) (line′ out′ : List ℕ) where

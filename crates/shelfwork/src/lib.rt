@@ -3,7 +3,7 @@ ghost use mathlib.Core.Path.{_≡_};
 ghost use Prim.Native.Nat.{_+_};
 ghost use mir.Syntax.{w64};
 ghost use mir.Val.{Fits};
-ghost use Rattle.report.specs.declared.feed.Feeding.the-variants.{Fed};
+ghost use Rattle.report.specs.Passing.{takenIn};
 ghost use Rattle.shelfwork.specs.Work.{begun, asking, behindFeed, verdictAsk, FedOn, Ended, chunkRead, numberAt, FailedAt, After};
 use report::feed::Feeding;
 use report::feed::State;
@@ -73,19 +73,28 @@ fn ask_for(work: Work, ask: Ask) -> Work
     }
 }
 
-// The work behind a call of `feed` that took so much of the chunk.
-fn behind_feed(work: Work, state: State, taken: usize, written: usize) -> Work
-    requires { ⌜ Fits w64 (work .fed + taken) ⌝ }
-    ensures { λ r. ⌜ r ≡ behindFeed work (Fed state taken written) ⌝ }
+// The work behind a call of `feed`.
+fn behind_feed(work: Work, answer: Feeding) -> Work
+    requires { ⌜ Fits w64 (work .fed + takenIn answer) ⌝ }
+    ensures { λ r. ⌜ r ≡ behindFeed work answer ⌝ }
 {
-    let before = work.state;
-    Work {
-        ask: Ask::Write(written),
-        state,
-        number: before.number,
-        length: work.length,
-        fed: work.fed + taken,
-        ended: work.ended,
+    match answer {
+        Feeding::Fed {
+            state,
+            taken,
+            written,
+        } => {
+            let before = work.state;
+            Work {
+                ask: Ask::Write(written),
+                state,
+                number: before.number,
+                length: work.length,
+                fed: work.fed + taken,
+                ended: work.ended,
+            }
+        }
+        Feeding::Refused(refusal) => ask_for(work, Ask::Refused(refusal)),
     }
 }
 
@@ -99,15 +108,8 @@ fn feed_more(work: Work, chunk: &[u8], line: &mut [u8], out: &mut [u8]) -> Work
         return ask_for(work, Ask::Read);
     }
     let before = work.state;
-    let fed = feed(before, &chunk[from..end], line, out);
-    match fed {
-        Feeding::Fed {
-            state,
-            taken,
-            written,
-        } => behind_feed(work, state, taken, written),
-        Feeding::Refused(refusal) => ask_for(work, Ask::Refused(refusal)),
-    }
+    let answer = feed(before, &chunk[from..end], line, out);
+    behind_feed(work, answer)
 }
 
 // What is asked where this was written to the output: to write it to standard output, or to say it on standard error.

@@ -27,21 +27,23 @@ wordOf (Cut missing) = 67 ∷ 85 ∷ 84 ∷ []
 wordOf (Bad refusal) = 66 ∷ 65 ∷ 68 ∷ []
 wordOf Open = 79 ∷ 80 ∷ 69 ∷ 78 ∷ []
 
--- the two numbers of what is stated: the first value, and 0 beside it; the missing bytes, and 0; the refusal's number and its place
+-- the first number of what is stated: the first value, the missing bytes, or the refusal's number
 abbrev pub firstStated : Stated → ℕ
 firstStated (gives values) = getD values 0 0
 firstStated (misses missing) = missing
 firstStated (refuses number place) = number
 
+-- the second: 0, or the refusal's place
 abbrev pub secondStated : Stated → ℕ
 secondStated (gives values) = 0
 secondStated (misses missing) = 0
 secondStated (refuses number place) = place
 
--- a line's two numbers: the value's length, 0; the missing bytes, 0; the reason, the place; 0, 0
+-- a line's first number: the value's length, the missing bytes, the reason, or 0
 abbrev pub firstOf : Outcome → ℕ
 firstOf outcome = firstStated (statedOutcome outcome)
 
+-- its second: 0, 0, the place, or 0
 abbrev pub secondOf : Outcome → ℕ
 secondOf outcome = secondStated (statedOutcome outcome)
 
@@ -62,6 +64,7 @@ headOf number answer = decimal number ++ (32 ∷ letterOf (answer .kind) ∷ 32 
 abbrev pub tailOf : Outcome → List ℕ
 tailOf outcome = 32 ∷ decimal (firstOf outcome) ++ (32 ∷ decimal (secondOf outcome) ++ (10 ∷ []))
 
+-- a report line
 abbrev pub textOf : ℕ → FrameAnswer → List ℕ
 textOf number answer = headOf number answer ++ tailOf (answer .outcome)
 

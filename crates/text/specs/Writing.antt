@@ -15,6 +15,7 @@ room = 80
 abbrev pub WrittenText : List ℕ → List ℕ → ℕ → Verdict → List ℕ → Type 0
 WrittenText text out place = WrittenBy (roomRows (place + length text) (length out)) text out place
 
+-- a report line at a place, which is no longer than that
 pub record WrittenLine (number : ℕ) (answer : FrameAnswer) (out : List ℕ) (place : ℕ) (verdict : Verdict) (out′ : List ℕ) : Type 0 where
   pub short : length (textOf number answer) ≤ room
   pub written : WrittenText (textOf number answer) out place verdict out′

@@ -172,16 +172,6 @@ fn put_tail(out: &mut [u8], place: usize, outcome: Outcome)
     out[behind_second] = 10;
 }
 
-// A report line where it has room.
-fn put_line(number: u64, answer: FrameAnswer, out: &mut [u8], place: usize)
-    requires { ⌜ place + length (textOf number answer) ≤ length (now out) ⌝ }
-    ensures { λ _. ⌜ now (out .exit) ≡ put (now (out .entry)) place (textOf number answer) ⌝ }
-{
-    let outcome = answer.outcome;
-    let behind_head = put_head(out, place, number, answer);
-    put_tail(out, behind_head, outcome);
-}
-
 // Writes a report line at a place: the count of its bytes, or 13 where it has no room.
 pub fn write_line(number: u64, answer: FrameAnswer, out: &mut [u8], place: usize) -> Verdict
     ensures { λ r. ⌜ WrittenLine number answer (now (out .entry)) place r (now (out .exit)) ⌝ }
@@ -199,7 +189,9 @@ pub fn write_line(number: u64, answer: FrameAnswer, out: &mut [u8], place: usize
             place: 0,
         });
     }
-    put_line(number, answer, out, place);
+    let outcome = answer.outcome;
+    let behind_head = put_head(out, place, number, answer);
+    put_tail(out, behind_head, outcome);
     Verdict::Complete(length)
 }
 
@@ -219,16 +211,6 @@ fn put_failure(out: &mut [u8], failure: Failure) -> usize
     }
 }
 
-// A failure at a line, where it has room.
-fn put_failure_line(out: &mut [u8], failure: Failure, number: u64)
-    requires { ⌜ 36 + length (decimal number) ≤ length (now out) ⌝ }
-    ensures { λ _. ⌜ now (out .exit) ≡ put (now (out .entry)) 0 (failureText failure number) ⌝ }
-{
-    let behind_words = put_failure(out, failure);
-    let end = put_decimal(out, behind_words, number);
-    out[end] = 10;
-}
-
 // Writes a failure at a line to the front: the count of its bytes, or 13 where it has no room.
 pub fn write_failure(failure: Failure, number: u64, out: &mut [u8]) -> Verdict
     ensures { λ r. ⌜ WrittenText (failureText failure number) (now (out .entry)) 0 r (now (out .exit)) ⌝ }
@@ -240,6 +222,8 @@ pub fn write_failure(failure: Failure, number: u64, out: &mut [u8]) -> Verdict
             place: 0,
         });
     }
-    put_failure_line(out, failure, number);
+    let behind_words = put_failure(out, failure);
+    let end = put_decimal(out, behind_words, number);
+    out[end] = 10;
     Verdict::Complete(length)
 }

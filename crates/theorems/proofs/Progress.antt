@@ -15,7 +15,8 @@ use Rattle.lines.specs.Taking.{longestLine}
 use Rattle.verdict.specs.Writing.{put}
 use Rattle.text.specs.Writing.{room}
 use Rattle.report.specs.Feeding.{Came, cameOf, Fed, FedBy}
-use Rattle.report.proofs.Progress.{came-within, takenIn, writtenIn}
+use Rattle.report.specs.Passing.{takenIn}
+use Rattle.report.proofs.Progress.{came-within}
 use Rattle.theorems.specs.Calls.{Calls, more}
 
 -- a call with room for a line takes at least one character of a chunk that has any
@@ -24,6 +25,11 @@ unfolding cameOf
 came-forward number held left buffer [] h l = absurd (omega arith)
 came-forward number held left buffer (c ∷ chunk) h l =
     by-test (λ (came : Came). 1 ≤ came .taken) (eqb c 10) _ _ (λ _. rw (le-ltb left room h) (omega arith)) (λ _. omega arith)
+
+-- how much was written
+abbrev writtenIn : Feeding → ℕ
+writtenIn (FedCase state taken written) = written
+writtenIn (Refused refusal) = 0
 
 put-fits : (out text : List ℕ) → length (put out 0 text) ≡ length out → length text ≤ length out
 unfolding put

@@ -96,7 +96,7 @@ module _ (work : Work) (chunk line out taken output : List ℕ) (long : longestL
     fed-stood : (state : State) (count written : ℕ) → FedBy (work .state) (leftOf work chunk) line out (FedCase state count written) line′ out′ → Then (behindFeed work (FedCase state count written))
     fed-stood state count written f =
         let part = leftOf work chunk in
-        let within = fed-within (work .state) part line out state count written line′ out′ f in
+        let within = fed-within (work .state) part line out (FedCase state count written) line′ out′ f in
         let next = behindFeed work (FedCase state count written) in
         record {
           long = omega (arith, lent .lines);

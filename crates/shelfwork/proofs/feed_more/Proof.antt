@@ -1,5 +1,4 @@
 -- `shelfwork::feed_more` meets its contract. Assumes nothing.
-use mathlib.Core.Path.{_∙_}
 use native.Mathlib.Omega.{arith}
 use denote.Ref.{now}
 use Rattle.shelfwork.proofs.Working.{unfed, left-fed, fed-fits}
@@ -31,24 +30,14 @@ part-feed-end c = search needs
 feed-requires : tie.Need-feed-requires
 feed-requires c κs = search needs
 
-enum-known-fed : tie.Need-enum-known-fed
-enum-known-fed c = search needs
-
 behind-feed-requires : tie.Need-behind-feed-requires
 behind-feed-requires c κs =
-    let m = c .before in
-    let f = m .before .before .before .before .before .before in
+    let f = c .before .before .before .before in
     let h = f .before .before .before .before .before in
     let l = h .before in
     let s = l .before .before .before .before in
     let a = s .args in
-    omega (arith, fed-fits (a .work) (now (a .chunk)) (now (a .line)) (now (a .out)) (l .lesser .result) (l .lesser .ensures) (h .if1 .left) (f .feed .result) (m .fed .given .0 .0) (m .fed .given .0 .1 .0) (m .fed .given .0 .1 .1 .0) _ _ (m .fed .given .1) (f .feed .ensures), s .good .1 .0 .0)
-
-enum-known-fed-2 : tie.Need-enum-known-fed-2
-enum-known-fed-2 c = search needs
-
-ask-for-requires-2 : tie.Need-ask-for-requires-2
-ask-for-requires-2 c κs = search needs
+    omega (arith, fed-fits (a .work) (now (a .chunk)) (now (a .line)) (now (a .out)) (l .lesser .result) (l .lesser .ensures) (h .if1 .left) (f .feed .result) _ _ (f .feed .ensures), s .good .1 .0 .0)
 
 same-length : tie.Need-same-length
 same-length c = search needs
@@ -58,27 +47,11 @@ same-length-2 c = search needs
 
 returns-2 : tie.Need-returns-2
 returns-2 c =
-    let m = c .before .before in
-    let f = m .before .before .before .before .before .before in
+    let f = c .before .before .before .before .before in
     let h = f .before .before .before .before .before in
     let l = h .before in
     let a = l .before .before .before .before .args in
-    left-fed (a .work) (now (a .chunk)) (now (a .line)) (now (a .out)) (l .lesser .result) (l .lesser .ensures) (h .if1 .left) (f .feed .result) _ _ _ (f .feed .ensures) (c .behind-feed .ensures ∙ rw (m .fed .given .1))
-
-same-length-3 : tie.Need-same-length-3
-same-length-3 c = search needs
-
-same-length-4 : tie.Need-same-length-4
-same-length-4 c = search needs
-
-returns-3 : tie.Need-returns-3
-returns-3 c =
-    let m = c .before .before in
-    let f = m .before .before .before .before .before .before in
-    let h = f .before .before .before .before .before in
-    let l = h .before in
-    let a = l .before .before .before .before .args in
-    left-fed (a .work) (now (a .chunk)) (now (a .line)) (now (a .out)) (l .lesser .result) (l .lesser .ensures) (h .if1 .left) (f .feed .result) _ _ _ (f .feed .ensures) (c .ask-for2 .ensures ∙ rw (m .fed2 .given .1))
+    left-fed (a .work) (now (a .chunk)) (now (a .line)) (now (a .out)) (l .lesser .result) (l .lesser .ensures) (h .if1 .left) (f .feed .result) _ _ _ (f .feed .ensures) (c .behind-feed .ensures)
 
 pub feed-more-spec : {M : Type 1} → statement M
 feed-more-spec =
@@ -91,13 +64,7 @@ feed-more-spec =
     part-feed-start
     part-feed-end
     feed-requires
-    enum-known-fed
     behind-feed-requires
-    enum-known-fed-2
-    ask-for-requires-2
     same-length
     same-length-2
-    returns-2
-    same-length-3
-    same-length-4
-    returns-3)
+    returns-2)

@@ -1,9 +1,17 @@
--- `text::write_line` meets its contract: each answer is the one of its test, and a refusal leaves the bytes. Assumes nothing.
+-- `text::write_line` meets its contract: each answer is the one of its test, a refusal leaves the bytes, and the line's two parts stand one behind the other. Assumes nothing.
+use Prim.Native.Nat.{_+_, _≤_}
+use mathlib.Core.Path.{refl}
 use native.Mathlib.Omega.{arith}
 use borrow.Author.Needs.{needs}
-use Rattle.text.proofs.Lines.{written-none, written-all}
+use lib.ListN.{length}
+use Rattle.text.specs.Text.{headOf, tailOf, textOf}
+use Rattle.text.proofs.Lines.{room-first, room-second, puts-puts, written-none, written-all}
 use Rattle.text.proofs.write_line.Statement.{statement}
 use Rattle.text.proofs.write_line.Tie as tie
+
+-- the line has room
+fits : (c : tie.Else2) → let a = c .before .before .before .before .args in a .place + length (textOf (a .number) (a .answer)) ≤ length (a .out .now)
+fits c = omega (arith, c .before .before .line-length .ensures .0)
 
 line-length-requires : tie.Need-line-length-requires
 line-length-requires c κs = search needs
@@ -23,17 +31,30 @@ returns-2 c =
     let n = c .before .before .line-length in
     written-none (a .number) (a .answer) (a .out .now) (a .place) (n .result) (n .ensures .0) (n .ensures .1) (omega arith)
 
-put-line-requires : tie.Need-put-line-requires
-put-line-requires c κs = search needs
+put-head-requires : tie.Need-put-head-requires
+put-head-requires c κs =
+    let a = c .before .before .before .before .before .args in
+    room-first (length (a .out .now)) (a .place) (headOf (a .number) (a .answer)) (tailOf (a .answer .outcome)) (fits (c .before))
+
+put-tail-requires : tie.Need-put-tail-requires
+put-tail-requires c κs =
+    let h = c .before .before .before in
+    let e = h .before .before in
+    let a = e .before .before .before .before .args in
+    room-second (a .out .now) (h .put-head .last .0) (a .place) (h .put-head .result) (headOf (a .number) (a .answer)) (tailOf (a .answer .outcome)) (fits e) (h .put-head .ensures)
 
 same-length : tie.Need-same-length
 same-length c = search needs
 
 returns-3 : tie.Need-returns-3
 returns-3 c =
-    let a = c .before .before .before .before .before .before .before .before .args in
-    let n = c .before .before .before .before .before .before .line-length in
-    written-all (a .number) (a .answer) (a .out .now) (a .place) (n .result) (n .ensures .0) (n .ensures .1) (c .before .before .put-line .last .1 .1 .0) (omega arith) (c .before .before .put-line .ensures)
+    let t = c .before .before in
+    let h = t .before .before .before .before in
+    let e = h .before .before in
+    let a = e .before .before .before .before .args in
+    let n = e .before .before .line-length in
+    written-all (a .number) (a .answer) (a .out .now) (a .place) (n .result) (n .ensures .0) (n .ensures .1) (t .put-tail .last .0) (omega arith)
+    (puts-puts (a .out .now) (h .put-head .last .0) (a .place) (h .put-head .result) (headOf (a .number) (a .answer)) (tailOf (a .answer .outcome)) (t .put-tail .last .0) _ (fits e) (h .put-head .ensures) (refl, t .put-tail .ensures) .1)
 
 pub write-line-spec : {M : Type 1} → statement M
 write-line-spec =
@@ -43,6 +64,7 @@ write-line-spec =
     returns
     sub-if2
     returns-2
-    put-line-requires
+    put-head-requires
+    put-tail-requires
     same-length
     returns-3)
