@@ -3,7 +3,6 @@
 // "U HEX D C M" a matrix pack unpacked into lists of these lengths, "E HEX W M" expanded, "C HEX" its scaled coefficients.
 // "R HEX" a matrix pack and "Q HEX" an array pack, read and written again. "W HEX" writes the matrix and "X HEX" the array that these bytes give.
 ghost use Prim.Native.Nat.{_≤_};
-ghost use lib.ListN.{length};
 use libc::STDIN_FILENO;
 use libc::STDOUT_FILENO;
 use verdict::lesser;

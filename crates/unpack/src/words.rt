@@ -1,7 +1,7 @@
 // The words of a whole pack, one after the other: deviations, then coefficients by their marks.
 ghost use mathlib.Core.Path.{_≡_};
 ghost use mathlib.Core.Bool.{false, cond};
-ghost use Prim.Native.Nat.{_+_, _*_, _≤_, _<_, min};
+ghost use Prim.Native.Nat.{_+_, _*_, _≤_, _<_};
 ghost use lib.ListN.{length as count, drop, replicate, getD};
 ghost use lib.Dec.{eqb};
 ghost use Rattle.word.specs.Bytes.{wordAt};

@@ -1,5 +1,4 @@
 -- `counts::pairs_of` meets its contract. Assumes nothing.
-use mathlib.Core.Path.{_∙_, sym}
 use native.Mathlib.Omega.{arith}
 use borrow.Author.Tests.{lt-ltb, le-ltb}
 use Rattle.counts.proofs.Counts.{pairs-square, square-small, size-square}

@@ -1,6 +1,5 @@
 -- `cmatrix::fields::fields_fit` meets its contract: six numbers, and three of them yes or no. Assumes nothing.
 use mathlib.Core.Path.{refl}
-use native.Mathlib.Omega.{arith}
 use borrow.Author.Needs.{needs}
 use borrow.Author.Tests.{le-leb, lt-leb}
 use Rattle.cmatrix.proofs.fields.fields_fit.Statement.{statement}

@@ -6,21 +6,6 @@ use borrow.Author.Needs.{needs}
 use Rattle.rule.proofs.rules.deviation_rule.Statement.{statement}
 use Rattle.rule.proofs.rules.deviation_rule.Tie as tie
 
-mapped-rule-requires : tie.Need-mapped-rule-requires
-mapped-rule-requires c κs = search needs
-
-rule-of-requires : tie.Need-rule-of-requires
-rule-of-requires c κs = search needs
-
-rule-of-requires-2 : tie.Need-rule-of-requires-2
-rule-of-requires-2 c κs = search needs
-
-rule-of-requires-3 : tie.Need-rule-of-requires-3
-rule-of-requires-3 c κs = search needs
-
-ieee-rule-requires : tie.Need-ieee-rule-requires
-ieee-rule-requires c κs = search needs
-
 returns : tie.Need-returns
 returns c = c .mapped-rule .ensures ∙ ruled-in deviationRule (c .before .before .args .length) (c .before .if1 .taken)
 
@@ -33,5 +18,4 @@ returns-2 c =
     rw (one .rule-of .ensures, two .rule-of2 .ensures, three .rule-of3 .ensures) at (c .ieee-rule .ensures) ∙ ruled-in deviationRule (o .before .args .length) (o .if1 .left)
 
 pub deviation-rule-spec : {M : Type 1} → statement M
-deviation-rule-spec =
-    tie.close (tie.spec mapped-rule-requires rule-of-requires rule-of-requires-2 rule-of-requires-3 ieee-rule-requires returns returns-2)
+deviation-rule-spec = tie.close (tie.spec (λ c κs. search needs) (λ c κs. search needs) (λ c κs. search needs) (λ c κs. search needs) (λ c κs. search needs) returns returns-2)

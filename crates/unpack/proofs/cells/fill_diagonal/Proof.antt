@@ -1,11 +1,10 @@
 -- `unpack::cells::fill_diagonal` meets its contract. The loop's invariant: the first `i` cells of the diagonal are filled in. Assumes nothing.
-use Prim.Native.Nat.{ℕ, _+_, _-_, _*_, _≤_, _<_, min}
-use mathlib.Core.Path.{_≡_, _∙_, ap, subst, refl}
+use Prim.Native.Nat.{ℕ, _+_, _-_, _*_, _≤_, _<_}
+use mathlib.Core.Path.{_≡_, subst, refl}
 use mathlib.Core.List.{List}
 use native.Mathlib.Omega.{arith}
 use denote.Ref.{now}
 use lib.ListN.{length as count}
-use Rattle.matrix.specs.declared.Fields.{Fields}
 use Rattle.matrix.specs.Spelling.{meaningIn}
 use Rattle.unpack.specs.Found.{meaningFound}
 use Rattle.unpack.specs.Cells.{Grid, diagonal}

@@ -1,13 +1,12 @@
 -- `unpack::cells::fill_full_row` meets its contract. The loop's invariant: the pairs of the row up to `column` are filled in. Assumes nothing.
 use Prim.Native.Nat.{ℕ, suc, _+_, _-_, _*_, _≤_, _<_, min}
-use mathlib.Core.Path.{_≡_, _∙_, ap, sym, subst, refl}
+use mathlib.Core.Path.{_≡_, _∙_, ap, subst, refl}
 use mathlib.Core.List.{List}
 use native.Mathlib.Nat.{zero-mul, suc-mul}
 use native.Mathlib.Omega.{arith}
 use denote.Ref.{now}
 use lib.ListN.{length as size}
 use Rattle.word.specs.Bytes.{wordAt}
-use Rattle.matrix.specs.declared.Fields.{Fields}
 use Rattle.matrixwalk.specs.declared.Found.{Found}
 use Rattle.matrix.specs.Meaning.{Matrix, pairs}
 use Rattle.matrix.specs.Order.{pairAt}

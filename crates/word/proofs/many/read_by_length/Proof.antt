@@ -9,28 +9,13 @@ use Rattle.word.proofs.many.read_by_length.Statement.{statement}
 use Rattle.word.proofs.many.read_by_length.Tie as tie
 
 read-each-requires : tie.Need-read-each-requires
-read-each-requires c κs =
-    let s = c .before .before .before .before in
-    let e : s .args .length ≡ 2 = omega arith in
-    (omega arith, rw e at (s .pre .1))
+read-each-requires c κs = let s = c .before .before .before .before in let e : s .args .length ≡ 2 = omega arith in (omega arith, rw e at (s .pre .1))
 
 read-each-requires-2 : tie.Need-read-each-requires-2
-read-each-requires-2 c κs =
-    let s = c .before .before .before .before in
-    let e : s .args .length ≡ 4 = omega arith in
-    (omega arith, rw e at (s .pre .1))
+read-each-requires-2 c κs = let s = c .before .before .before .before in let e : s .args .length ≡ 4 = omega arith in (omega arith, rw e at (s .pre .1))
 
 read-each-requires-3 : tie.Need-read-each-requires-3
-read-each-requires-3 c κs =
-    let s = c .before .before .before .before in
-    let e : s .args .length ≡ 8 = omega arith in
-    (omega arith, rw e at (s .pre .1))
-
-read-each-requires-4 : tie.Need-read-each-requires-4
-read-each-requires-4 c κs = search needs
-
-same-length : tie.Need-same-length
-same-length c = search needs
+read-each-requires-3 c κs = let s = c .before .before .before .before in let e : s .args .length ≡ 8 = omega arith in (omega arith, rw e at (s .pre .1))
 
 returns : tie.Need-returns
 returns c =
@@ -38,17 +23,11 @@ returns c =
     let e : a .length ≡ 2 = omega arith in
     c .before .before .read-each .ensures ∙ ap (λ (n : ℕ). wordsIn n (count (a .out .now)) (a .bytes .now)) (sym e)
 
-same-length-2 : tie.Need-same-length-2
-same-length-2 c = search needs
-
 returns-2 : tie.Need-returns-2
 returns-2 c =
     let a = c .before .before .before .before .before .before .before .args in
     let e : a .length ≡ 4 = omega arith in
     c .before .before .read-each2 .ensures ∙ ap (λ (n : ℕ). wordsIn n (count (a .out .now)) (a .bytes .now)) (sym e)
-
-same-length-3 : tie.Need-same-length-3
-same-length-3 c = search needs
 
 returns-3 : tie.Need-returns-3
 returns-3 c =
@@ -56,25 +35,5 @@ returns-3 c =
     let e : a .length ≡ 8 = omega arith in
     c .before .before .read-each3 .ensures ∙ ap (λ (n : ℕ). wordsIn n (count (a .out .now)) (a .bytes .now)) (sym e)
 
-same-length-4 : tie.Need-same-length-4
-same-length-4 c = search needs
-
-returns-4 : tie.Need-returns-4
-returns-4 c = search needs
-
 pub read-by-length-spec : {M : Type 1} → statement M
-read-by-length-spec =
-    tie.close
-    (tie.spec
-    read-each-requires
-    read-each-requires-2
-    read-each-requires-3
-    read-each-requires-4
-    same-length
-    returns
-    same-length-2
-    returns-2
-    same-length-3
-    returns-3
-    same-length-4
-    returns-4)
+read-by-length-spec = tie.close (tie.spec read-each-requires read-each-requires-2 read-each-requires-3 (λ c κs. search needs) (λ c. search needs) returns (λ c. search needs) returns-2 (λ c. search needs) returns-3 (λ c. search needs) (λ c. search needs))
