@@ -1,10 +1,10 @@
 // A matrix pack's fields as six numbers, N, Cs, Cf, Clen, Sf and Slen: of what reading answers, and as a writer is given them.
 ghost use mathlib.Core.Path.{_≡_};
-ghost use mathlib.Core.Bool.{cond};
 ghost use Prim.Native.Nat.{_≤_};
 ghost use lib.ListN.{length};
 ghost use Rattle.cmatrix.specs.Inside.{saidBy, numbersIn};
 ghost use Rattle.cmatrix.specs.Writing.{fieldsGiven, fieldsFit};
+use counts::bit_of;
 use matrix::Fields;
 use matrixreader::MatrixRead;
 use verdict::Verdict;
@@ -18,13 +18,6 @@ pub(crate) fn said(answer: MatrixRead) -> Verdict
         MatrixRead::Unfinished(missing) => Verdict::Unfinished(missing),
         MatrixRead::Refused(refusal) => Verdict::Refused(refusal),
     }
-}
-
-// Yes as 1, no as 0.
-fn bit_of(flag: bool) -> usize
-    ensures { λ r. ⌜ r ≡ cond flag 1 0 ⌝ }
-{
-    if flag { 1 } else { 0 }
 }
 
 // The six numbers of a complete pack; of any other six that are not asked for.

@@ -7,6 +7,8 @@ use Rattle.counts.proofs.header_bytes.Kinds as header-bytes
 use Rattle.counts.proofs.header_bytes.Reads as header-bytes-reads
 use Rattle.counts.proofs.vector_bytes.Kinds as vector-bytes
 use Rattle.counts.proofs.vector_bytes.Reads as vector-bytes-reads
+use Rattle.counts.proofs.bit_of.Kinds as bit-of
+use Rattle.counts.proofs.bit_of.Reads as bit-of-reads
 use Rattle.counts.proofs.mark_of.Kinds as mark-of
 use Rattle.counts.proofs.mark_of.Reads as mark-of-reads
 
@@ -18,6 +20,9 @@ header-bytes-only κs a x y s t p q = p ∙ sym q
 
 pub vector-bytes-only : OneAnswer vector-bytes.ps vector-bytes.r vector-bytes-reads.Post
 vector-bytes-only κs a x y s t p q = p ∙ sym q
+
+pub bit-of-only : OneAnswer bit-of.ps bit-of.r bit-of-reads.Post
+bit-of-only κs a x y s t p q = p ∙ sym q
 
 pub mark-of-only : OneAnswer mark-of.ps mark-of.r mark-of-reads.Post
 mark-of-only κs a x y s t p q = p ∙ sym q

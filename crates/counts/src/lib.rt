@@ -1,7 +1,7 @@
 // How many pairs, marks and bytes the fields of a matrix ask for.
 ghost use mathlib.Core.Path.{_≡_};
 ghost use Prim.Native.Nat.{min};
-ghost use Rattle.matrix.specs.Header.{headerBytes};
+ghost use Rattle.matrix.specs.Header.{bit, headerBytes};
 ghost use Rattle.counts.specs.Counts.{pairsUpTo, vectorUpTo};
 use matrix::Fields;
 
@@ -30,6 +30,13 @@ pub fn vector_bytes(f: Fields) -> usize
     ensures { λ r. ⌜ r ≡ vectorUpTo f ⌝ }
 {
     if f.cs { (pairs_of(f.n) + 7) / 8 } else { 0 }
+}
+
+// A flag as a bit.
+pub fn bit_of(flag: bool) -> usize
+    ensures { λ r. ⌜ r ≡ bit flag ⌝ }
+{
+    if flag { 1 } else { 0 }
 }
 
 // The mark of values that are all sent: 0 if they have no bytes.

@@ -1,6 +1,6 @@
 // The bytes of a lawful pack, put one after the other where there is room.
 ghost use mathlib.Core.Path.{_≡_};
-ghost use mathlib.Core.Bool.{false, cond};
+ghost use mathlib.Core.Bool.{false};
 ghost use mathlib.Core.List.{_++_};
 ghost use Prim.Native.Nat.{ℕ, _+_, _*_, _^_, _≤_, _<_, min};
 ghost use lib.ListN.{length as count, take, drop, replicate, getD};
@@ -12,6 +12,7 @@ ghost use Rattle.matrix.specs.Header.{headerOf, headerBytes, vectorBytes};
 ghost use Rattle.matrixcheck.specs.Given.{sentWords, deviationMarks, meaningGiven};
 ghost use Rattle.matrixcheck.specs.Checking.{Enough};
 ghost use Rattle.matrixwriter.specs.Sending.{LawfulGiven, Sendable, DeviationsFit};
+use counts::bit_of;
 use counts::header_bytes;
 use counts::pairs_of;
 use counts::vector_bytes;
@@ -39,13 +40,6 @@ fn put_sent(out: &mut [u8], place: usize, length: usize, mark: u8, word: u64)
         return;
     }
     put_word(out, place, length, word);
-}
-
-// A flag as a bit.
-fn bit_of(flag: bool) -> usize
-    ensures { λ r. ⌜ r ≡ cond flag 1 0 ⌝ }
-{
-    if flag { 1 } else { 0 }
 }
 
 // The size and the control bytes.

@@ -7,6 +7,7 @@ ghost use Rattle.number.specs.Octets.{octets};
 use verdict::Reason;
 use verdict::Refusal;
 use verdict::Verdict;
+use verdict::from_place;
 
 // How many octets a value has.
 pub fn count_of(value: u64) -> usize
@@ -19,13 +20,6 @@ pub fn count_of(value: u64) -> usize
         rest /= 128;
     }
     count
-}
-
-// How many bytes stand from a place on.
-fn from_place(whole: usize, place: usize) -> usize
-    ensures { λ r. ⌜ r ≡ whole - place ⌝ }
-{
-    if place < whole { whole - place } else { 0 }
 }
 
 // A value's octets, the last one first, at a place with room for them.

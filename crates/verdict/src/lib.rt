@@ -1,6 +1,6 @@
 // The answer of every reader and writer: why a refusal is given, where, and the verdict on a string of bytes.
 ghost use mathlib.Core.Path.{_≡_};
-ghost use Prim.Native.Nat.{min};
+ghost use Prim.Native.Nat.{_-_, min};
 ghost use Rattle.verdict.specs.Numbers.{numberOf, packedOf};
 ghost use Rattle.verdict.specs.Writing.{refusing};
 
@@ -82,6 +82,13 @@ pub fn lesser(a: usize, b: usize) -> usize
     ensures { λ r. ⌜ r ≡ min a b ⌝ }
 {
     if a < b { a } else { b }
+}
+
+// How many entries stand from a place on.
+pub fn from_place(whole: usize, place: usize) -> usize
+    ensures { λ r. ⌜ r ≡ whole - place ⌝ }
+{
+    if place < whole { whole - place } else { 0 }
 }
 
 // A refusal that has no place in a pack.

@@ -7,6 +7,7 @@ ghost use Rattle.word.specs.Digits.{valueOf};
 ghost use Rattle.word.specs.Bytes.{wordAt, readOf};
 use verdict::Reason;
 use verdict::Refusal;
+use verdict::from_place;
 
 // What reading a word finds: the word, how many of its bytes are missing, or a refusal of its length.
 pub enum Read {
@@ -24,13 +25,6 @@ pub fn byte_at(bytes: &[u8], place: usize) -> usize
     } else {
         0
     }
-}
-
-// How many bytes stand from a place on.
-fn from_place(whole: usize, place: usize) -> usize
-    ensures { λ r. ⌜ r ≡ whole - place ⌝ }
-{
-    if place < whole { whole - place } else { 0 }
 }
 
 // The word's bytes, in the first of eight.

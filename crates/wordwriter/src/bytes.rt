@@ -9,13 +9,7 @@ ghost use Rattle.word.specs.Bytes.{Written};
 use verdict::Reason;
 use verdict::Refusal;
 use verdict::Verdict;
-
-// How many bytes stand from a place on.
-fn from_place(whole: usize, place: usize) -> usize
-    ensures { λ r. ⌜ r ≡ whole - place ⌝ }
-{
-    if place < whole { whole - place } else { 0 }
-}
+use verdict::from_place;
 
 // Whether a word fits in so many bytes.
 pub(crate) fn fits(word: u64, length: usize) -> bool
