@@ -97,19 +97,6 @@ fn fill_marks(marks: &mut [u8], number: usize, mark: u8)
     }
 }
 
-fn fill_deviations(bytes: &[u8], found: Found, deviations: &mut [u64])
-    requires { ⌜ Whole (now bytes) found × (found .fields .n ≤ count (now deviations)) ⌝ }
-    ensures { λ _. ⌜ now (deviations .exit) ≡ over (meaningFound (now (bytes .entry)) found .deviations) (now (deviations .entry)) ⌝ }
-{
-    fill_words(
-        bytes,
-        found.words,
-        found.fields.slen,
-        found.fields.n,
-        deviations,
-    );
-}
-
 // The coefficients of a full matrix, which are all sent or have no bytes.
 fn fill_all(bytes: &[u8], found: Found, coefficients: &mut [u64], marks: &mut [u8])
     requires { ⌜ Whole (now bytes) found × ((pairs (found .fields .n) ≤ count (now coefficients)) × ((pairs (found .fields .n) ≤ count (now marks)) × (found .fields .cs ≡ false))) ⌝ }
@@ -148,17 +135,6 @@ fn fill_sent(bytes: &[u8], found: Found, coefficients: &mut [u64], marks: &mut [
     }
 }
 
-fn fill_coefficients(bytes: &[u8], found: Found, coefficients: &mut [u64], marks: &mut [u8])
-    requires { ⌜ Whole (now bytes) found × ((pairs (found .fields .n) ≤ count (now coefficients)) × (pairs (found .fields .n) ≤ count (now marks))) ⌝ }
-    ensures { λ _. ⌜ (now (coefficients .exit) ≡ over (meaningFound (now (bytes .entry)) found .coefficients) (now (coefficients .entry))) × (now (marks .exit) ≡ over (meaningFound (now (bytes .entry)) found .marks) (now (marks .entry))) ⌝ }
-{
-    if found.fields.cs {
-        fill_sent(bytes, found, coefficients, marks);
-    } else {
-        fill_all(bytes, found, coefficients, marks);
-    }
-}
-
 // Unpacks a whole pack, where there is room.
 pub(crate) fn unpack_found(
     bytes: &[u8],
@@ -181,7 +157,11 @@ pub(crate) fn unpack_found(
     if marks.len() < count {
         return refuse(Reason::SmallBuffer);
     }
-    fill_deviations(bytes, found, deviations);
-    fill_coefficients(bytes, found, coefficients, marks);
+    fill_words(bytes, found.words, found.fields.slen, n, deviations);
+    if found.fields.cs {
+        fill_sent(bytes, found, coefficients, marks);
+        return Verdict::Complete(found.length);
+    }
+    fill_all(bytes, found, coefficients, marks);
     Verdict::Complete(found.length)
 }

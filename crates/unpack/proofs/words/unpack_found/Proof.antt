@@ -1,12 +1,18 @@
 -- `unpack::words::unpack_found` meets its contract: the lists are filled where there is room in all three. Assumes nothing.
 use mathlib.Core.Path.{_≡_}
-use Prim.Native.Nat.{_<_, _≤_}
+use mathlib.Core.List.{List}
+use Prim.Native.Nat.{ℕ, _<_, _≤_}
 use native.Mathlib.Omega.{arith}
 use borrow.Author.Tests.{lt-ltb, le-ltb}
 use denote.Ref.{now}
 use lib.ListN.{length as size}
 use Rattle.matrix.specs.Meaning.{pairs}
-use Rattle.unpack.proofs.Filling.{small}
+use Rattle.verdict.specs.declared.Verdict.the-variants.{Complete}
+use Rattle.verdict.specs.Lent.{over}
+use Rattle.verdict.proofs.Lent.{over-same}
+use Rattle.unpack.specs.Unpacking.{UnpackedFor}
+use Rattle.unpack.specs.Found.{meaningFound}
+use Rattle.unpack.proofs.Filling.{small, deviations-here, deviations-within}
 use Rattle.unpack.proofs.Answers.{unpacked-short, unpacked-whole}
 use Rattle.counts.proofs.Counts.{pairs-counted}
 use borrow.Author.Needs.{needs}
@@ -56,49 +62,53 @@ returns-3 c =
     unpacked-short (now (g .args .bytes)) (g .args .found) (now (g .args .deviations)) (now (g .args .coefficients)) (now (g .args .marks)) (c .refuse3 .result) (c .refuse3 .ensures)
     (simp (le-ltb _ _ (c .before .before .before .if1 .left), le-ltb _ _ room, lt-ltb _ _ few))
 
-fill-deviations-requires : tie.Need-fill-deviations-requires
-fill-deviations-requires c κs = search needs
+-- behind the last test of room: the call's own arguments, and room for the marks
+abbrev start : tie.Else3 → tie.Start
+start o = o .before .before .before .before .before .before .before .before
 
-fill-coefficients-requires : tie.Need-fill-coefficients-requires
-fill-coefficients-requires c κs =
-    let o = c .before .before .before .before .before .before in
-    let g = o .before .before .before .before .before .before .before .before in
-    (g .pre, (enough (o .before), omega (arith, o .if3 .left, counted (o .before .before .before))))
+marked : (o : tie.Else3) → pairs (start o .args .found .fields .n) ≤ size (now (start o .args .marks))
+marked o = omega (arith, o .if3 .left, counted (o .before .before .before))
 
-same-length : tie.Need-same-length
-same-length c = search needs
+fill-words-requires : tie.Need-fill-words-requires
+fill-words-requires c κs =
+    let s = start (c .before) in
+    let bytes = now (s .args .bytes) in
+    (small bytes (s .args .found) (s .pre) .slen-few, (deviations-within bytes (s .args .found) (s .pre), c .before .before .before .if1 .left))
 
-same-length-2 : tie.Need-same-length-2
-same-length-2 c = search needs
+fill-sent-requires : tie.Need-fill-sent-requires
+fill-sent-requires c κs = let o = c .before .before .before .before .before .before .before in (start o .pre, (enough (o .before), marked o))
 
-same-length-3 : tie.Need-same-length-3
-same-length-3 c = search needs
+fill-all-requires : tie.Need-fill-all-requires
+fill-all-requires c κs =
+    let e = c .before .before in
+    let o = e .before .before .before .before .before in
+    (start o .pre, (enough (o .before), (marked o, e .if4 .left)))
+
+-- all lists are filled
+module _ (w : tie.After-fill-words) where
+  abbrev o : tie.Else3
+  o = w .before .before
+
+  abbrev s : tie.Start
+  s = start o
+
+  filled : (coefficients′ marks′ : List ℕ) → (coefficients′ ≡ over (meaningFound (now (s .args .bytes)) (s .args .found) .coefficients) (now (s .args .coefficients))) × (marks′ ≡ over (meaningFound (now (s .args .bytes)) (s .args .found) .marks) (now (s .args .marks)))
+      → UnpackedFor (Complete (s .args .found .length)) (meaningFound (now (s .args .bytes)) (s .args .found)) (now (s .args .deviations)) (now (s .args .coefficients)) (now (s .args .marks)) (Complete (s .args .found .length)) (w .fill-words .last .1 .1 .1 .1 .0) coefficients′ marks′
+  filled coefficients′ marks′ e =
+      unpacked-whole (now (s .args .bytes)) (s .args .found) (now (s .args .deviations)) (now (s .args .coefficients)) (now (s .args .marks)) (w .fill-words .last .1 .1 .1 .1 .0) coefficients′ marks′
+      (simp (le-ltb _ _ (o .before .before .if1 .left), le-ltb _ _ (enough (o .before)), le-ltb _ _ (marked o)))
+      (over-same _ _ (now (s .args .deviations)) (w .fill-words .last .1 .1 .1 .1 .0) (w .fill-words .ensures) (deviations-here (now (s .args .bytes)) (s .args .found) (s .pre)))
+      (e .0) (e .1)
 
 returns-4 : tie.Need-returns-4
 returns-4 c =
-    let d = c .before .before .before .before .fill-coefficients in
-    let e = c .before .before .before .before .before .before .before .before .before .fill-deviations in
-    let o = c .before .before .before .before .before .before .before .before .before .before .before in
-    let g = o .before .before .before .before .before .before .before .before in
-    let room = enough (o .before) in
-    let marked : pairs (g .args .found .fields .n) ≤ size (now (g .args .marks)) = omega (arith, o .if3 .left, counted (o .before .before .before)) in
-    unpacked-whole (now (g .args .bytes)) (g .args .found) (now (g .args .deviations)) (now (g .args .coefficients)) (now (g .args .marks)) (e .last .1 .1 .0) (d .last .1 .1 .0) (d .last .1 .1 .1 .0)
-    (simp (le-ltb _ _ (o .before .before .if1 .left), le-ltb _ _ room, le-ltb _ _ marked)) (e .ensures) (d .ensures .0) (d .ensures .1)
+    let d = c .before .before .before .before in
+    filled (d .before .before .before .before .before .before) (d .fill-sent .last .1 .1 .0) (d .fill-sent .last .1 .1 .1 .0) (d .fill-sent .ensures)
+
+returns-5 : tie.Need-returns-5
+returns-5 c =
+    let d = c .before .before .before .before in
+    filled (d .before .before .before .before .before .before) (d .fill-all .last .1 .1 .0) (d .fill-all .last .1 .1 .1 .0) (d .fill-all .ensures)
 
 pub unpack-found-spec : {M : Type 1} → statement M
-unpack-found-spec =
-    tie.close
-    (tie.spec
-    pairs-of-requires
-    refuse-requires
-    returns
-    refuse-requires-2
-    returns-2
-    refuse-requires-3
-    returns-3
-    fill-deviations-requires
-    fill-coefficients-requires
-    same-length
-    same-length-2
-    same-length-3
-    returns-4)
+unpack-found-spec = tie.close (tie.spec pairs-of-requires refuse-requires returns refuse-requires-2 returns-2 refuse-requires-3 returns-3 fill-words-requires fill-sent-requires (λ c. search needs) (λ c. search needs) (λ c. search needs) returns-4 fill-all-requires (λ c. search needs) (λ c. search needs) (λ c. search needs) returns-5)
