@@ -50,11 +50,11 @@ static size_t ones(const uint8_t *b, size_t count) {
     return sum;
 }
 
-static uint64_t vector(const uint8_t *b, size_t count, const struct fields *f, size_t *sent) {
-    size_t m = pairs(f->n), v = (m + 7) / 8, there = lesser(v, count - 3), seen = ones(b + 3, there);
+INLINE uint64_t vector(const uint8_t *b, size_t count, const struct fields *f, size_t at, size_t *sent) {
+    size_t m = pairs(f->n), v = (m + 7) / 8, last = at + v - 1, there = lesser(v, count - at), seen = ones(b + at, there);
     if (there < v) return UNFINISHED(v - there + f->n * f->slen + (f->slen == 0 && seen == 0 ? 1 : seen) * f->clen);
-    if (b[2 + v] & ((1u << (v * 8 - m)) - 1)) return REFUSED(10, 2 + v);
-    if (f->slen == 0 && seen == 0) return REFUSED(9, 2 + v);
+    if (b[last] & ((1u << (v * 8 - m)) - 1)) return REFUSED(10, last);
+    if (f->slen == 0 && seen == 0) return REFUSED(9, last);
     *sent = seen;
     return GO_ON;
 }
@@ -119,35 +119,40 @@ static uint64_t words(const uint8_t *b, size_t count, size_t *place, size_t numb
     return GO_ON;
 }
 
-static uint64_t walk(const uint8_t *b, size_t count, struct fields *f, size_t *first, size_t *length) {
-    uint64_t said = header(b, count, f);
-    if (said != GO_ON) return said;
+/* What stands behind the control bytes, its place a constant for each mode. */
+INLINE uint64_t walk_from(const uint8_t *b, size_t count, const struct fields *f, size_t at, size_t *first, size_t *length) {
+    uint64_t said = GO_ON;
     size_t sent = f->clen ? pairs(f->n) : 0;
-    *first = 3;
     if (f->cs) {
-        said = vector(b, count, f, &sent);
+        said = vector(b, count, f, at, &sent);
         if (said != GO_ON) return said;
-        *first += (pairs(f->n) + 7) / 8;
+        at += (pairs(f->n) + 7) / 8;
     }
-    *length = *first;
+    *first = *length = at;
     if (f->slen) said = words(b, count, length, f->n, deviation_rule(f->sf, f->slen), f->sf, sent * f->clen);
     if (said == GO_ON && f->clen) said = words(b, count, length, sent, coefficient_rule(f->cf, f->clen), f->cf, 0);
     return said == GO_ON ? COMPLETE(*length) : said;
 }
 
-uint64_t best_matrix_verdict(const uint8_t *b, size_t count) {
+INLINE uint64_t walk(const uint8_t *b, size_t count, size_t format, struct fields *f, size_t *first, size_t *length) {
+    uint64_t said = header(b, count, format, f);
+    if (said != GO_ON) return said;
+    return f->mode == 2 ? walk_from(b, count, f, 3, first, length) : walk_from(b, count, f, 2, first, length);
+}
+
+uint64_t best_matrix_verdict(const uint8_t *b, size_t count, size_t format) {
     struct fields f;
     size_t first, length;
-    return walk(b, count, &f, &first, &length);
+    return walk(b, count, format, &f, &first, &length);
 }
 
 INLINE void load_all(const uint8_t *b, size_t at, size_t length, size_t number, uint64_t *out) {
     for (size_t i = 0; i < number; i++) out[i] = load(b + at + i * length, length);
 }
 
-INLINE void load_sent(const uint8_t *b, size_t at, size_t length, size_t number, uint64_t none, uint64_t *out, uint8_t *marks) {
+INLINE void load_sent(const uint8_t *b, const uint8_t *bits, size_t at, size_t length, size_t number, uint64_t none, uint64_t *out, uint8_t *marks) {
     for (size_t i = 0; i < number; i++) {
-        uint8_t mark = b[3 + i / 8] >> (7 - i % 8) & 1;
+        uint8_t mark = bits[i / 8] >> (7 - i % 8) & 1;
         marks[i] = mark;
         out[i] = mark ? load(b + at, length) : none;
         at += mark ? length : 0;
@@ -159,18 +164,18 @@ static void load_deviations(const uint8_t *b, size_t at, const struct fields *f,
     FOR_LENGTH(f->slen, load_all(b, at, L, f->n, out))
 }
 
-uint64_t best_matrix_unpack(const uint8_t *b, size_t count, uint64_t *deviations, size_t deviations_count, uint64_t *coefficients,
-                            size_t coefficients_count, uint8_t *marks, size_t marks_count) {
+uint64_t best_matrix_unpack(const uint8_t *b, size_t count, size_t format, uint64_t *deviations, size_t deviations_count,
+                            uint64_t *coefficients, size_t coefficients_count, uint8_t *marks, size_t marks_count) {
     struct fields f;
     size_t at, length;
-    uint64_t said = walk(b, count, &f, &at, &length);
+    uint64_t said = walk(b, count, format, &f, &at, &length);
     if (said >> 32) return said;
     size_t m = pairs(f.n);
     if (deviations_count < f.n || coefficients_count < m || marks_count < m) return REFUSED(13, 0);
     load_deviations(b, at, &f, deviations);
     at += f.n * f.slen;
     if (f.cs) {
-        FOR_LENGTH(f.clen, load_sent(b, at, L, m, nought(&f), coefficients, marks))
+        FOR_LENGTH(f.clen, load_sent(b, b + start(&f), at, L, m, nought(&f), coefficients, marks))
     } else {
         memset(marks, f.clen != 0, m);
         if (f.clen == 0) memset(coefficients, 0, 8 * m);
@@ -181,10 +186,11 @@ uint64_t best_matrix_unpack(const uint8_t *b, size_t count, uint64_t *deviations
 
 INLINE void expand_pairs(const uint8_t *b, size_t at, size_t length, const struct fields *f, uint64_t *cells, uint8_t *marks) {
     size_t n = f->n, pair = 0, sparse = f->cs;
+    const uint8_t *bits = b + start(f);
     uint64_t none = nought(f);
     for (size_t i = 0; i < n; i++)
         for (size_t j = i + 1; j < n; j++, pair++) {
-            uint8_t mark = sparse ? b[3 + pair / 8] >> (7 - pair % 8) & 1 : length != 0;
+            uint8_t mark = sparse ? bits[pair / 8] >> (7 - pair % 8) & 1 : length != 0;
             uint64_t word = mark ? load(b + at, length) : none;
             at += mark ? length : 0;
             cells[i * n + j] = word, cells[j * n + i] = word;
@@ -192,10 +198,11 @@ INLINE void expand_pairs(const uint8_t *b, size_t at, size_t length, const struc
         }
 }
 
-uint64_t best_matrix_expand(const uint8_t *b, size_t count, uint64_t *cells, size_t cells_count, uint8_t *marks, size_t marks_count) {
+uint64_t best_matrix_expand(const uint8_t *b, size_t count, size_t format, uint64_t *cells, size_t cells_count, uint8_t *marks,
+                            size_t marks_count) {
     struct fields f;
     size_t at, length;
-    uint64_t said = walk(b, count, &f, &at, &length), deviations[64];
+    uint64_t said = walk(b, count, format, &f, &at, &length), deviations[64];
     if (said >> 32) return said;
     if (cells_count < f.n * f.n || marks_count < f.n * f.n) return REFUSED(13, 0);
     load_deviations(b, at, &f, deviations);
@@ -241,15 +248,15 @@ static int sent_fit(const struct rule *rule, const uint64_t *words, const uint8_
     return 1;
 }
 
-uint64_t best_matrix_write(const size_t *given, size_t given_count, const uint64_t *deviations, size_t deviations_count,
+uint64_t best_matrix_write(const size_t *given, size_t given_count, size_t format, const uint64_t *deviations, size_t deviations_count,
                            const uint64_t *coefficients, size_t coefficients_count, const uint8_t *marks, size_t marks_count,
                            uint8_t *out, size_t out_count) {
-    if (given_count < 6 || given[1] > 1 || given[2] > 1 || given[4] > 1) return REFUSED(14, 0);
-    struct fields f = {given[0], given[1], given[2], given[3], given[4], given[5]};
-    unsigned broken = judge_fields(&f);
+    if (!are_fields(given, given_count, format)) return REFUSED(14, 0);
+    struct fields f = {given[0], given[1], given[2], given[3], given[4], given[5], given[6]};
+    unsigned broken = judge_fields(f, format);
     if (broken) return REFUSED(broken, 0);
     size_t m = pairs(f.n), v = f.cs ? (m + 7) / 8 : 0, sent = 0;
-    if (deviations_count < f.n || coefficients_count < m || marks_count < m) return REFUSED(14, 0);
+    if (!formats_agree(&f, format) || deviations_count < f.n || coefficients_count < m || marks_count < m) return REFUSED(14, 0);
     uint8_t most = f.clen != 0, least = f.cs ? 0 : most, unfit = 0;
     for (size_t i = 0; i < m; i++) unfit |= (marks[i] > most) | (marks[i] < least);
     if (unfit) return REFUSED(14, 0);
@@ -262,12 +269,10 @@ uint64_t best_matrix_write(const size_t *given, size_t given_count, const uint64
     if (f.slen && !words_fit(&rule, deviations, f.n)) return REFUSED(11, 0);
     rule = coefficient_rule(f.cf, f.clen);
     if (f.cs ? !sent_fit(&rule, coefficients, marks, m) : f.clen && !words_fit(&rule, coefficients, m)) return REFUSED(11, 0);
-    size_t length = 3 + v + f.n * f.slen + sent * f.clen, at = 3 + v;
+    size_t at = start(&f) + v, length = at + f.n * f.slen + sent * f.clen;
     if (out_count < length) return REFUSED(13, 0);
-    out[0] = f.n;
-    out[1] = 0x80 | f.cs << 5 | f.cf << 4 | f.clen;
-    out[2] = f.sf << 4 | f.slen;
-    if (v) store_vector(out + 3, marks, m);
+    put_header(out, &f);
+    if (v) store_vector(out + start(&f), marks, m);
     FOR_LENGTH(f.slen, store_all(out + at, L, deviations, f.n))
     at += f.n * f.slen;
     if (f.cs) {

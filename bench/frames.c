@@ -2,6 +2,7 @@
 #define _GNU_SOURCE
 #include <stdio.h>
 #include <stdlib.h>
+#include "../include/galimpukas.h"
 #include "reader.h"
 
 enum { LONGEST = 65664, KEY = 16 };
@@ -18,7 +19,7 @@ static char kind_of(const uint8_t *b) {
     return b[12] == 0x21 ? 'S' : b[12] == 0x06 ? 'M' : '-';
 }
 
-/* What is said of a frame's bytes. */
+/* What is said of a frame's bytes; the deviations of Mode 1 are taken as IEEE. */
 static struct said examine(const uint8_t *b, size_t count, int best) {
     if (count < KEY) return bad('-', 24, 0);
     char kind = kind_of(b);
@@ -33,7 +34,7 @@ static struct said examine(const uint8_t *b, size_t count, int best) {
         at += more;
     } else if (first >= 0x80) return bad(kind, 22, 0);
     if (count - at != length) return bad(kind, 23, 0);
-    uint64_t answer = kind == 'S' ? (best ? best_matrix_verdict : plain_matrix_verdict)(b + at, length)
+    uint64_t answer = kind == 'S' ? (best ? best_matrix_verdict : plain_matrix_verdict)(b + at, length, GALIMPUKAS_IEEE)
                                   : (best ? best_array_verdict : plain_array_verdict)(b + at, length);
     if (answer >> 32 == 1) return (struct said){kind, "CUT", (uint32_t)answer, 0};
     if (answer >> 32 == 2) return bad(kind, answer >> 16 & 0xFFFF, answer & 0xFFFF);

@@ -9,12 +9,12 @@ static uint64_t fold(const uint8_t *b, size_t length) {
 
 /* The bit vector: how many coefficients are sent. */
 static uint64_t vector(const uint8_t *b, size_t count, const struct fields *f, size_t *sent) {
-    size_t m = pairs(f->n), v = (m + 7) / 8, there = lesser(v, count - 3), ones = 0;
-    for (size_t i = 0; i < there * 8; i++) ones += b[3 + i / 8] >> (7 - i % 8) & 1;
+    size_t m = pairs(f->n), v = (m + 7) / 8, at = start(f), there = lesser(v, count - at), ones = 0;
+    for (size_t i = 0; i < there * 8; i++) ones += b[at + i / 8] >> (7 - i % 8) & 1;
     if (there < v) return UNFINISHED(v - there + f->n * f->slen + (f->slen == 0 && ones == 0 ? 1 : ones) * f->clen);
     for (size_t i = m; i < v * 8; i++)
-        if (b[3 + i / 8] >> (7 - i % 8) & 1) return REFUSED(10, 2 + v);
-    if (f->slen == 0 && ones == 0) return REFUSED(9, 2 + v);
+        if (b[at + i / 8] >> (7 - i % 8) & 1) return REFUSED(10, at + v - 1);
+    if (f->slen == 0 && ones == 0) return REFUSED(9, at + v - 1);
     *sent = ones;
     return GO_ON;
 }
@@ -35,11 +35,11 @@ static uint64_t words(const uint8_t *b, size_t count, size_t *place, size_t numb
     return GO_ON;
 }
 
-static uint64_t walk(const uint8_t *b, size_t count, struct fields *f, size_t *first, size_t *length) {
-    uint64_t said = header(b, count, f);
+static uint64_t walk(const uint8_t *b, size_t count, size_t format, struct fields *f, size_t *first, size_t *length) {
+    uint64_t said = header(b, count, format, f);
     if (said != GO_ON) return said;
     size_t sent = f->clen ? pairs(f->n) : 0;
-    *first = 3;
+    *first = start(f);
     if (f->cs) {
         said = vector(b, count, f, &sent);
         if (said != GO_ON) return said;
@@ -51,21 +51,21 @@ static uint64_t walk(const uint8_t *b, size_t count, struct fields *f, size_t *f
     return said == GO_ON ? COMPLETE(*length) : said;
 }
 
-uint64_t plain_matrix_verdict(const uint8_t *b, size_t count) {
+uint64_t plain_matrix_verdict(const uint8_t *b, size_t count, size_t format) {
     struct fields f;
     size_t first, length;
-    return walk(b, count, &f, &first, &length);
+    return walk(b, count, format, &f, &first, &length);
 }
 
 static unsigned mark_at(const uint8_t *b, const struct fields *f, size_t pair) {
-    return f->cs ? b[3 + pair / 8] >> (7 - pair % 8) & 1 : f->clen != 0;
+    return f->cs ? b[start(f) + pair / 8] >> (7 - pair % 8) & 1 : f->clen != 0;
 }
 
-uint64_t plain_matrix_unpack(const uint8_t *b, size_t count, uint64_t *deviations, size_t deviations_count, uint64_t *coefficients,
-                             size_t coefficients_count, uint8_t *marks, size_t marks_count) {
+uint64_t plain_matrix_unpack(const uint8_t *b, size_t count, size_t format, uint64_t *deviations, size_t deviations_count,
+                             uint64_t *coefficients, size_t coefficients_count, uint8_t *marks, size_t marks_count) {
     struct fields f;
     size_t at, length;
-    uint64_t said = walk(b, count, &f, &at, &length);
+    uint64_t said = walk(b, count, format, &f, &at, &length);
     if (said >> 32) return said;
     size_t m = pairs(f.n);
     if (deviations_count < f.n || coefficients_count < m || marks_count < m) return REFUSED(13, 0);
@@ -78,10 +78,11 @@ uint64_t plain_matrix_unpack(const uint8_t *b, size_t count, uint64_t *deviation
     return said;
 }
 
-uint64_t plain_matrix_expand(const uint8_t *b, size_t count, uint64_t *cells, size_t cells_count, uint8_t *marks, size_t marks_count) {
+uint64_t plain_matrix_expand(const uint8_t *b, size_t count, size_t format, uint64_t *cells, size_t cells_count, uint8_t *marks,
+                             size_t marks_count) {
     struct fields f;
     size_t at, length, pair = 0;
-    uint64_t said = walk(b, count, &f, &at, &length);
+    uint64_t said = walk(b, count, format, &f, &at, &length);
     if (said >> 32) return said;
     if (cells_count < f.n * f.n || marks_count < f.n * f.n) return REFUSED(13, 0);
     for (size_t i = 0; i < f.n; i++, at += f.slen) {
@@ -106,15 +107,15 @@ static size_t put(uint8_t *out, size_t at, size_t length, uint64_t word) {
 
 static int fits(struct rule rule, uint64_t word) { return (word & ~rule.sign) <= rule.greatest; }
 
-uint64_t plain_matrix_write(const size_t *given, size_t given_count, const uint64_t *deviations, size_t deviations_count,
+uint64_t plain_matrix_write(const size_t *given, size_t given_count, size_t format, const uint64_t *deviations, size_t deviations_count,
                             const uint64_t *coefficients, size_t coefficients_count, const uint8_t *marks, size_t marks_count,
                             uint8_t *out, size_t out_count) {
-    if (given_count < 6 || given[1] > 1 || given[2] > 1 || given[4] > 1) return REFUSED(14, 0);
-    struct fields f = {given[0], given[1], given[2], given[3], given[4], given[5]};
-    unsigned broken = judge_fields(&f);
+    if (!are_fields(given, given_count, format)) return REFUSED(14, 0);
+    struct fields f = {given[0], given[1], given[2], given[3], given[4], given[5], given[6]};
+    unsigned broken = judge_fields(f, format);
     if (broken) return REFUSED(broken, 0);
     size_t m = pairs(f.n), v = f.cs ? (m + 7) / 8 : 0, sent = 0;
-    if (deviations_count < f.n || coefficients_count < m || marks_count < m) return REFUSED(14, 0);
+    if (!formats_agree(&f, format) || deviations_count < f.n || coefficients_count < m || marks_count < m) return REFUSED(14, 0);
     for (size_t i = 0; i < m; i++) {
         if (marks[i] > (f.clen != 0)) return REFUSED(14, 0);
         if (marks[i] == 0 && !f.cs && f.clen) return REFUSED(14, 0);
@@ -126,14 +127,12 @@ uint64_t plain_matrix_write(const size_t *given, size_t given_count, const uint6
             if (!fits(deviation_rule(f.sf, f.slen), deviations[i])) return REFUSED(11, 0);
     for (size_t i = 0; i < m; i++)
         if (marks[i] && !fits(coefficient_rule(f.cf, f.clen), coefficients[i])) return REFUSED(11, 0);
-    size_t length = 3 + v + f.n * f.slen + sent * f.clen, at = 3 + v;
+    size_t at = start(&f) + v, length = at + f.n * f.slen + sent * f.clen;
     if (out_count < length) return REFUSED(13, 0);
-    out[0] = f.n;
-    out[1] = 0x80 | f.cs << 5 | f.cf << 4 | f.clen;
-    out[2] = f.sf << 4 | f.slen;
-    memset(out + 3, 0, v);
+    put_header(out, &f);
+    memset(out + start(&f), 0, v);
     if (v)
-        for (size_t i = 0; i < m; i++) out[3 + i / 8] |= marks[i] << (7 - i % 8);
+        for (size_t i = 0; i < m; i++) out[start(&f) + i / 8] |= marks[i] << (7 - i % 8);
     if (f.slen)
         for (size_t i = 0; i < f.n; i++) at = put(out, at, f.slen, deviations[i]);
     for (size_t i = 0; i < m; i++)

@@ -1,5 +1,5 @@
 /* Says what is missing of a pack that is still being uploaded: upload S FILE for a matrix pack, upload M FILE for an array pack.
- * Ask again whenever the file has grown; what is said of a complete or a refused pack never changes. */
+ * Ask again whenever the file has grown; what is said of a complete or a refused pack never changes. The deviations of Mode 1 are taken as IEEE. */
 #include <stdio.h>
 #include <stdlib.h>
 #include "galimpukas.h"
@@ -22,7 +22,7 @@ int main(int argc, char **argv) {
     }
     size_t count = fread(bytes, 1, sizeof bytes, file);
     fclose(file);
-    uint64_t answer = argv[1][0] == 'M' ? array_verdict(bytes, count) : matrix_verdict(bytes, count);
+    uint64_t answer = argv[1][0] == 'M' ? array_verdict(bytes, count) : matrix_verdict(bytes, count, GALIMPUKAS_IEEE);
     say(answer, count);
     return GALIMPUKAS_IS_COMPLETE(answer) ? 0 : 1;
 }

@@ -1,7 +1,11 @@
-/* Galimpukas for C and C++: KLV matrix packs (MISB ST 1010.3, Mode 2) and array packs (MISB ST 1303), read, unpacked and written by proved code.
+/* Galimpukas for C and C++: KLV matrix packs (MISB ST 1010.3, Mode 1 and Mode 2) and array packs (MISB ST 1303), read, unpacked and written by proved code.
  *
  * Every call takes any memory of the stated counts and answers one number; a lent list changes only where the answer is complete. A pointer may be
- * anything where its count is 0. Lists that a call fills must not overlap each other nor what it reads. */
+ * anything where its count is 0. Lists that a call fills must not overlap each other nor what it reads.
+ *
+ * A matrix pack says its mode itself. In Mode 1, of one control byte, it does not say its formats: coefficients are mapped, and how deviations are written the caller
+ * states to every matrix call, GALIMPUKAS_IEEE or GALIMPUKAS_MAPPED, the same for all that one logger wrote. In Mode 2, of two control bytes, the pack says both
+ * formats, and what is stated is not looked at. A format above 1 is refused 14 before all else. */
 #ifndef GALIMPUKAS_H
 #define GALIMPUKAS_H
 
@@ -17,7 +21,7 @@ enum galimpukas_reason {
     GALIMPUKAS_ZERO = 1,           /* a number that must be 1 or more is 0 */
     GALIMPUKAS_TOO_LARGE = 2,      /* a limit cannot be kept */
     GALIMPUKAS_PADDED_NUMBER = 3,  /* the first octet of a number is 0x80 */
-    GALIMPUKAS_MODE = 4,           /* bit 7 of control byte 1 is 0, or of control byte 2 is 1 */
+    GALIMPUKAS_MODE = 4,           /* bit 7 of control byte 2 is 1 */
     GALIMPUKAS_RESERVED = 5,       /* a reserved control bit is 1 */
     GALIMPUKAS_VALUE_LENGTH = 6,   /* Clen or Slen is not allowed for its format */
     GALIMPUKAS_SPARSE = 7,         /* Cs is 1 and Clen is 0 */
@@ -27,7 +31,7 @@ enum galimpukas_reason {
     GALIMPUKAS_VALUE_RANGE = 11,   /* a word breaks its rule */
     GALIMPUKAS_PROCESSING = 12,    /* element processing other than 1 */
     GALIMPUKAS_SMALL_BUFFER = 13,  /* a lent output is too short */
-    GALIMPUKAS_DISAGREE = 14,      /* what a writer is given does not fit together */
+    GALIMPUKAS_DISAGREE = 14,      /* what a call is given does not fit together */
     GALIMPUKAS_INDEX = 15          /* no such element */
 };
 
@@ -44,32 +48,47 @@ enum galimpukas_reason {
 /* The place of a refusal: the first byte that makes it certain, from 0; 0 for reasons 13 to 15 and for writers. */
 #define GALIMPUKAS_PLACE(answer) ((unsigned)((answer) & 0xFFFF))
 
+/* How the deviations of Mode 1 are written. */
+enum galimpukas_format { GALIMPUKAS_IEEE = 0, GALIMPUKAS_MAPPED = 1 };
+
 /* M, how many pairs of N variables there are. */
 #define GALIMPUKAS_PAIRS(n) ((size_t)(n) * ((size_t)(n) - 1) / 2)
 /* The longest matrix pack, and the longest array pack. */
 #define GALIMPUKAS_LONGEST_MATRIX 16895
 #define GALIMPUKAS_LONGEST_ARRAY 32781
 
-/* Places in the six fields of a matrix. */
-enum { GALIMPUKAS_N, GALIMPUKAS_CS, GALIMPUKAS_CF, GALIMPUKAS_CLEN, GALIMPUKAS_SF, GALIMPUKAS_SLEN, GALIMPUKAS_MATRIX_FIELDS };
+/* Places in the seven fields of a matrix; the last is the mode of its Parse Control, 1 or 2. Of Mode 1, Cf is 1 and Sf the stated format, also beside length 0. */
+enum {
+    GALIMPUKAS_N,
+    GALIMPUKAS_CS,
+    GALIMPUKAS_CF,
+    GALIMPUKAS_CLEN,
+    GALIMPUKAS_SF,
+    GALIMPUKAS_SLEN,
+    GALIMPUKAS_PARSE_MODE,
+    GALIMPUKAS_MATRIX_FIELDS
+};
 /* Places in the eleven fields of an array: NDim, eight sizes (0 past the last), the element size, the place of the array's first byte. */
 enum { GALIMPUKAS_NDIM, GALIMPUKAS_SIZES, GALIMPUKAS_ELEMENT = 9, GALIMPUKAS_START, GALIMPUKAS_ARRAY_FIELDS };
 
-/* The verdict on a string of bytes as a matrix pack. */
-uint64_t matrix_verdict(const uint8_t *bytes, size_t count);
+/* The verdict on a string of bytes as a matrix pack, of either mode: missing bytes are the fewest over both. */
+uint64_t matrix_verdict(const uint8_t *bytes, size_t count, size_t format);
 
-/* N, Cs, Cf, Clen, Sf and Slen into six entries: the verdict, or 13 for fewer entries. */
-uint64_t matrix_fields(const uint8_t *bytes, size_t count, size_t *fields, size_t fields_count);
+/* N, Cs, Cf, Clen, Sf, Slen and the mode into seven entries: the verdict, or 13 for fewer entries. */
+uint64_t matrix_fields(const uint8_t *bytes, size_t count, size_t format, size_t *fields, size_t fields_count);
 
 /* N deviation words, M coefficient words and M marks (1 sent, 0 not sent): the verdict, or 13. */
-uint64_t matrix_unpack(const uint8_t *bytes, size_t count, uint64_t *deviations, size_t deviations_count,
+uint64_t matrix_unpack(const uint8_t *bytes, size_t count, size_t format, uint64_t *deviations, size_t deviations_count,
                        uint64_t *coefficients, size_t coefficients_count, uint8_t *marks, size_t marks_count);
 
 /* N times N words and marks by rows, deviations on the diagonal: the verdict, or 13. */
-uint64_t matrix_expand(const uint8_t *bytes, size_t count, uint64_t *words, size_t words_count, uint8_t *marks, size_t marks_count);
+uint64_t matrix_expand(const uint8_t *bytes, size_t count, size_t format, uint64_t *words, size_t words_count,
+                       uint8_t *marks, size_t marks_count);
 
-/* A matrix pack from six fields, N deviations, M coefficients and M marks: the count of bytes written, or a refusal. */
-uint64_t matrix_write(const size_t *fields, size_t fields_count, const uint64_t *deviations, size_t deviations_count,
+/* A matrix pack from seven fields, N deviations, M coefficients and M marks: the count of bytes written, or a refusal. Fewer than seven fields, a Cs, Cf or Sf
+ * above 1 and a mode other than 1 or 2 are 14 before all else. Mode 1 takes lengths up to 7, Cf 1 and the stated format as Sf: a longer length is 6, and another
+ * Cf or Sf is 14, with the causes of 14 that lie in the lists. */
+uint64_t matrix_write(const size_t *fields, size_t fields_count, size_t format, const uint64_t *deviations, size_t deviations_count,
                       const uint64_t *coefficients, size_t coefficients_count, const uint8_t *marks, size_t marks_count,
                       uint8_t *out, size_t out_count);
 

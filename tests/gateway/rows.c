@@ -1,7 +1,9 @@
 /* Runs rows of bytes through the calls that C has, and says what each gives, as the program rows does; and rows of the calls' own numbers:
- * "F HEX ROOM" the fields of a matrix pack, "G HEX ZEROS ROOM" those of an array pack of these bytes and so many of 0, "H N .." a matrix of one
- * value for each written from these numbers, "N" every call with no memory at all. The bytes that a call reads stand before memory that cannot be read; the lists that it fills are
- * lent from the middle of longer ones, and "kept" says that every other entry is as it was. */
+ * "F HEX ROOM" the fields of a matrix pack, "V HEX FORMAT ROOM" the four calls that read one, under this number as the format and with lists of so
+ * many entries, "G HEX ZEROS ROOM" the fields of an array pack of these bytes and so many of 0, "H FORMAT N .." a matrix of one value for each written
+ * from these numbers, "N" every call with no memory at all. A star in place of the first space states the format mapped. The bytes that a call reads
+ * stand before memory that cannot be read; the lists that it fills are lent from the middle of longer ones, and "kept" says that every other entry is
+ * as it was. */
 #define _GNU_SOURCE
 #include <stdio.h>
 #include <stdlib.h>
@@ -59,22 +61,24 @@ static void say_bytes(const char *name, const uint8_t *list, size_t count) {
 
 static void say_kept(int all) { printf(all ? " kept\n" : " lost\n"); }
 
-/* ---- the rows; each has its bytes, and the numbers behind them */
+/* ---- the rows; each has its stated format, its bytes, and the numbers behind them */
 
-struct row { char kind; const char *text; const uint8_t *bytes; size_t count; size_t given[16], givens; };
+struct row { char kind; const char *text; size_t format; const uint8_t *bytes; size_t count; size_t given[16], givens; };
 
-static uint64_t verdict_on(char kind, const uint8_t *bytes, size_t count) {
-    return kind == 'M' || kind == 'm' ? array_verdict(guarded(bytes, count), count) : matrix_verdict(guarded(bytes, count), count);
+/* The verdict on the first bytes of a row. */
+static uint64_t verdict_on(const struct row *r, size_t count) {
+    const uint8_t *pack = guarded(r->bytes, count);
+    return r->kind == 'M' || r->kind == 'm' ? array_verdict(pack, count) : matrix_verdict(pack, count, r->format);
 }
 
 static void pack_row(const struct row *r) {
     for (size_t k = 0; r->kind > 'Z' && k < r->count; k++) {
         printf("%zu ", k);
-        say(verdict_on(r->kind, r->bytes, k));
+        say(verdict_on(r, k));
         printf("\n");
     }
     printf("%s ", r->text);
-    say(verdict_on(r->kind, r->bytes, r->count));
+    say(verdict_on(r, r->count));
     printf("\n");
 }
 
@@ -98,7 +102,7 @@ static void address_row(const struct row *r) {
 }
 
 static void unpack_row(const struct row *r) {
-    uint64_t answer = matrix_unpack(guarded(r->bytes, r->count), r->count, words + 1, r->given[0], more_words + 1, r->given[1], marks + 1, r->given[2]);
+    uint64_t answer = matrix_unpack(guarded(r->bytes, r->count), r->count, r->format, words + 1, r->given[0], more_words + 1, r->given[1], marks + 1, r->given[2]);
     size_t n = GALIMPUKAS_IS_COMPLETE(answer) ? r->bytes[0] : 0, m = n ? GALIMPUKAS_PAIRS(n) : 0;
     printf("%s ", r->text);
     say(answer);
@@ -111,7 +115,7 @@ static void unpack_row(const struct row *r) {
 }
 
 static void expand_row(const struct row *r) {
-    uint64_t answer = matrix_expand(guarded(r->bytes, r->count), r->count, words + 1, r->given[0], marks + 1, r->given[1]);
+    uint64_t answer = matrix_expand(guarded(r->bytes, r->count), r->count, r->format, words + 1, r->given[0], marks + 1, r->given[1]);
     size_t n = GALIMPUKAS_IS_COMPLETE(answer) ? r->bytes[0] : 0;
     printf("%s ", r->text);
     say(answer);
@@ -130,11 +134,11 @@ static int right(uint64_t answer, const struct row *r, size_t room) {
 
 static int matrix_again(const struct row *r, size_t room) {
     const uint8_t *pack = guarded(r->bytes, r->count);
-    size_t fields[GALIMPUKAS_MATRIX_FIELDS];
+    size_t fields[GALIMPUKAS_MATRIX_FIELDS] = {0};
     lend();
-    matrix_fields(pack, r->count, fields, GALIMPUKAS_MATRIX_FIELDS);
-    matrix_unpack(pack, r->count, words, LIST, more_words, LIST, marks, LIST);
-    return right(matrix_write(fields, GALIMPUKAS_MATRIX_FIELDS, words, LIST, more_words, LIST, marks, LIST, out + 1, room), r, room);
+    matrix_fields(pack, r->count, r->format, fields, GALIMPUKAS_MATRIX_FIELDS);
+    matrix_unpack(pack, r->count, r->format, words, LIST, more_words, LIST, marks, LIST);
+    return right(matrix_write(fields, GALIMPUKAS_MATRIX_FIELDS, r->format, words, LIST, more_words, LIST, marks, LIST, out + 1, room), r, room);
 }
 
 static int array_again(const struct row *r, size_t room) {
@@ -149,7 +153,7 @@ static int array_again(const struct row *r, size_t room) {
 static void again_row(const struct row *r) {
     int (*again)(const struct row *, size_t) = r->kind == 'R' ? matrix_again : array_again;
     int same = again(r, r->count) && again(r, r->count - 1) && again(r, r->count + 9);
-    printf("%c %zu %s\n", r->kind, r->count, same ? "same" : "differs");
+    printf("%c%s %zu %s\n", r->kind, r->format == GALIMPUKAS_MAPPED ? "*" : "", r->count, same ? "same" : "differs");
 }
 
 static uint64_t eight_at(const uint8_t *b) {
@@ -166,14 +170,14 @@ static void say_written(const struct row *r, uint64_t answer) {
     say_kept(KEPT(out, count));
 }
 
-/* A byte each: the six fields, the room, how many deviations, coefficients and marks; then these, a mark being a byte. */
+/* A byte each: the seven fields, the room, how many deviations, coefficients and marks; then these, a mark being a byte. */
 static void matrix_row(const struct row *r) {
     const uint8_t *b = r->bytes;
-    size_t fields[GALIMPUKAS_MATRIX_FIELDS], d = b[7], c = b[8], m = b[9];
+    size_t fields[GALIMPUKAS_MATRIX_FIELDS], d = b[8], c = b[9], m = b[10];
     for (int i = 0; i < GALIMPUKAS_MATRIX_FIELDS; i++) fields[i] = b[i];
-    for (size_t i = 0; i < d; i++) words[i] = eight_at(b + 10 + 8 * i);
-    for (size_t i = 0; i < c; i++) more_words[i] = eight_at(b + 10 + 8 * (d + i));
-    say_written(r, matrix_write(fields, GALIMPUKAS_MATRIX_FIELDS, words, d, more_words, c, guarded(b + 10 + 8 * (d + c), m), m, out + 1, b[6]));
+    for (size_t i = 0; i < d; i++) words[i] = eight_at(b + 11 + 8 * i);
+    for (size_t i = 0; i < c; i++) more_words[i] = eight_at(b + 11 + 8 * (d + i));
+    say_written(r, matrix_write(fields, GALIMPUKAS_MATRIX_FIELDS, r->format, words, d, more_words, c, guarded(b + 11 + 8 * (d + c), m), m, out + 1, b[7]));
 }
 
 /* A byte for how many sizes; then in eight bytes each these, E, the length of the array (its bytes are 7) and the room. */
@@ -188,7 +192,7 @@ static void array_row(const struct row *r) {
 static void fields_row(const struct row *r) {
     const uint8_t *pack = r->kind == 'F' ? guarded(r->bytes, r->count) : with_zeros(r);
     size_t count = r->count + (r->kind == 'F' ? 0 : r->given[0]), room = r->given[r->givens - 1];
-    uint64_t answer = r->kind == 'F' ? matrix_fields(pack, count, numbers + 1, room) : array_fields(pack, count, numbers + 1, room);
+    uint64_t answer = r->kind == 'F' ? matrix_fields(pack, count, r->format, numbers + 1, room) : array_fields(pack, count, numbers + 1, room);
     size_t filled = !GALIMPUKAS_IS_COMPLETE(answer) ? 0 : r->kind == 'F' ? GALIMPUKAS_MATRIX_FIELDS : GALIMPUKAS_ARRAY_FIELDS;
     printf("%s ", r->text);
     say(answer);
@@ -196,17 +200,39 @@ static void fields_row(const struct row *r) {
     say_kept(KEPT(numbers, filled));
 }
 
+/* How many entries an answer says are filled. */
+static size_t filled(uint64_t answer, size_t count) { return GALIMPUKAS_IS_COMPLETE(answer) ? count : 0; }
+
+/* Any number for a format, in each call that reads a matrix pack. */
+static void formats_row(const struct row *r) {
+    const uint8_t *pack = guarded(r->bytes, r->count);
+    size_t format = r->given[0], room = r->given[1], n = r->count ? pack[0] : 0, m = n ? GALIMPUKAS_PAIRS(n) : 0;
+    uint64_t verdict = matrix_verdict(pack, r->count, format);
+    uint64_t fields = matrix_fields(pack, r->count, format, numbers + 1, room);
+    uint64_t unpacked = matrix_unpack(pack, r->count, format, words + 1, room, more_words + 1, room, marks + 1, room);
+    int all = KEPT(numbers, filled(fields, GALIMPUKAS_MATRIX_FIELDS)) && KEPT(words, filled(unpacked, n)) && KEPT(more_words, filled(unpacked, m)) &&
+              KEPT(marks, filled(unpacked, m));
+    lend();
+    uint64_t expanded = matrix_expand(pack, r->count, format, words + 1, room, marks + 1, room);
+    all = all && KEPT(words, filled(expanded, n * n)) && KEPT(marks, filled(expanded, n * n));
+    uint64_t answers[] = {verdict, fields, unpacked, expanded};
+    printf("%s", r->text);
+    for (size_t i = 0; i < sizeof answers / sizeof *answers; i++) printf(", "), say(answers[i]);
+    say_kept(all);
+}
+
 static void numbers_row(const struct row *r) {
     uint64_t one[64], half[2016];
     uint8_t sent[2016];
     for (int i = 0; i < 64; i++) one[i] = 1;
     for (int i = 0; i < 2016; i++) half[i] = 1, sent[i] = 1;
-    say_written(r, matrix_write(r->given, r->givens, one, 64, half, 2016, sent, 2016, out + 1, 1000));
+    say_written(r, matrix_write(r->given + 1, r->givens ? r->givens - 1 : 0, r->given[0], one, 64, half, 2016, sent, 2016, out + 1, 1000));
 }
 
 static void nothing_row(const struct row *r) {
-    uint64_t answers[] = {matrix_verdict(0, 0), matrix_fields(0, 0, 0, 0), matrix_unpack(0, 0, 0, 0, 0, 0, 0, 0), matrix_expand(0, 0, 0, 0, 0, 0),
-                          matrix_write(0, 0, 0, 0, 0, 0, 0, 0, 0, 0), array_verdict(0, 0), array_fields(0, 0, 0, 0), array_address(0, 0, 0, 0),
+    size_t f = r->format;
+    uint64_t answers[] = {matrix_verdict(0, 0, f), matrix_fields(0, 0, f, 0, 0), matrix_unpack(0, 0, f, 0, 0, 0, 0, 0, 0), matrix_expand(0, 0, f, 0, 0, 0, 0),
+                          matrix_write(0, 0, f, 0, 0, 0, 0, 0, 0, 0, 0), array_verdict(0, 0), array_fields(0, 0, 0, 0), array_address(0, 0, 0, 0),
                           array_write(0, 0, 0, 0, 0, 0, 0)};
     printf("%s", r->text);
     for (size_t i = 0; i < sizeof answers / sizeof *answers; i++) printf(", "), say(answers[i]);
@@ -223,6 +249,7 @@ static void do_row(const struct row *r) {
     case 'N': nothing_row(r); break;
     case 'Q': case 'R': again_row(r); break;
     case 'U': unpack_row(r); break;
+    case 'V': formats_row(r); break;
     case 'W': matrix_row(r); break;
     case 'X': array_row(r); break;
     default: pack_row(r);
@@ -239,7 +266,7 @@ int main(void) {
     guard = (uint8_t *)memory + GUARDED;
     while (fgets(line, sizeof line, stdin)) {
         line[strcspn(line, "\n")] = 0;
-        struct row r = {.kind = line[0], .text = line, .bytes = bytes};
+        struct row r = {.kind = line[0], .text = line, .format = line[0] && line[1] == '*' ? GALIMPUKAS_MAPPED : GALIMPUKAS_IEEE, .bytes = bytes};
         char *at = line + (r.kind == 'H' ? 1 : 2);
         for (; r.kind != 'H' && digit(at[0]) >= 0 && digit(at[1]) >= 0; at += 2) bytes[r.count++] = digit(at[0]) * 16 + digit(at[1]);
         while (*at == ' ' && r.givens < 16) r.given[r.givens++] = strtoull(at, &at, 10);

@@ -5,6 +5,7 @@ use crate::corpus::{good_array, good_matrix, Pack, Random, Scale};
 use crate::frame::hex_of_bytes;
 use crate::matrix::{has_lawful_ending, lawful_word, Role};
 use crate::verdict::Verdict;
+use crate::writes::same_again;
 use crate::{array, matrix};
 use std::io::{self, Write};
 
@@ -28,14 +29,25 @@ fn keeps_rule(word: &[u8], mapped: bool, role: Role) -> bool {
         }
 }
 
-/// Whether the bytes are a matrix pack from end to end.
-fn is_matrix_pack(bytes: &[u8]) -> bool {
-    if bytes.len() < 4 || bytes[0] < 1 || bytes[0] > 64 {
-        return false;
-    }
-    let n = bytes[0] as usize;
-    let m = n * (n - 1) / 2;
-    let (one, two) = (bytes[1], bytes[2]);
+/// What stands behind the size of a matrix pack: how many control bytes, Cs, Cf, Clen, Sf and Slen.
+type Fields = (usize, bool, bool, usize, bool, usize);
+
+/// The fields of Mode 1 (000, Table 1) by the place of their bits.
+fn single_byte(byte: u8, stated: bool) -> Option<Fields> {
+    let (s_length, sparse, c_length) = (byte / 16, byte / 8 % 2 == 1, byte % 8);
+    let allowed = stated || [0, 2, 4].contains(&s_length);
+    allowed.then_some((
+        1,
+        sparse,
+        true,
+        c_length as usize,
+        stated,
+        s_length as usize,
+    ))
+}
+
+/// The fields of Mode 2 (000, Table 2).
+fn two_bytes(one: u8, two: u8) -> Option<Fields> {
     let (sparse, c_mapped, c_length) = (one & 0x20 != 0, one & 0x10 != 0, (one & 0x0F) as usize);
     let (s_mapped, s_length) = (two & 0x10 != 0, (two & 0x0F) as usize);
     let allowed = |mapped: bool, length: usize| {
@@ -45,17 +57,32 @@ fn is_matrix_pack(bytes: &[u8]) -> bool {
             length == 0 || length == 2 || length == 4 || length == 8
         }
     };
-    if one & 0xC0 != 0x80
-        || two & 0xE0 != 0
-        || !allowed(c_mapped, c_length)
-        || !allowed(s_mapped, s_length)
-    {
+    let good = one & 0xC0 == 0x80
+        && two & 0xE0 == 0
+        && allowed(c_mapped, c_length)
+        && allowed(s_mapped, s_length);
+    good.then_some((2, sparse, c_mapped, c_length, s_mapped, s_length))
+}
+
+/// Whether the bytes are a matrix pack from end to end.
+fn is_matrix_pack(bytes: &[u8], stated: bool) -> bool {
+    if bytes.len() < 3 || bytes[0] < 1 || bytes[0] > 64 {
         return false;
     }
+    let n = bytes[0] as usize;
+    let m = n * (n - 1) / 2;
+    let fields = if bytes[1] < 128 {
+        single_byte(bytes[1], stated)
+    } else {
+        two_bytes(bytes[1], bytes[2])
+    };
+    let Some((count, sparse, c_mapped, c_length, s_mapped, s_length)) = fields else {
+        return false;
+    };
     if sparse && c_length == 0 || n == 1 && c_length > 0 {
         return false;
     }
-    let mut rest = &bytes[3..];
+    let mut rest = &bytes[1 + count..];
     let mut coefficients = if c_length > 0 { m } else { 0 };
     if sparse {
         let count = (m + 7) / 8;
@@ -199,12 +226,21 @@ struct Kind {
     good: fn(&mut Random, Scale) -> Pack,
 }
 
-const MATRIX: Kind = Kind {
-    verdict: matrix::verdict,
-    is_pack: is_matrix_pack,
-    alphabet: matrix_alphabet,
-    good: good_matrix,
-};
+/// Matrix packs where deviations of Mode 1 are stated to be IEEE, and where mapped.
+const MATRICES: [Kind; 2] = [
+    Kind {
+        verdict: |bytes| matrix::verdict(bytes, false),
+        is_pack: |bytes| is_matrix_pack(bytes, false),
+        alphabet: matrix_alphabet,
+        good: |random, scale| good_matrix(random, scale, false),
+    },
+    Kind {
+        verdict: |bytes| matrix::verdict(bytes, true),
+        is_pack: |bytes| is_matrix_pack(bytes, true),
+        alphabet: matrix_alphabet,
+        good: |random, scale| good_matrix(random, scale, true),
+    },
+];
 const ARRAY: Kind = Kind {
     verdict: array::verdict,
     is_pack: is_array_pack,
@@ -254,7 +290,7 @@ fn compare(kind: &Kind, bytes: &[u8], most: usize) {
 /// The verdicts on all beginnings must hang together with the verdict on the whole.
 fn compare_beginnings(kind: &Kind, bytes: &[u8]) {
     let whole = (kind.verdict)(bytes);
-    let mut last_missing = 5;
+    let mut last_missing = 4;
     for k in 0..bytes.len() {
         let verdict = (kind.verdict)(&bytes[..k]);
         let agrees = match (whole, verdict) {
@@ -356,17 +392,21 @@ pub fn run(seed: u64, count: u64, output: &mut dyn Write) -> io::Result<()> {
     let mut random = Random::new(seed);
     compare_words(&mut random, count);
 
-    // All single bytes; all pairs at the smallest sizes.
+    // No byte; all single bytes; all pairs at the smallest sizes.
     compare(&ARRAY, &[], 4);
+    for kind in &MATRICES {
+        compare(kind, &[], 3);
+        for first in 0..=255u8 {
+            let most = if (1..=3).contains(&first) { 4 } else { 3 };
+            compare(kind, &[first], most);
+            for n in 1..=4 {
+                compare(kind, &[n, first], 5);
+            }
+        }
+    }
     for first in 0..=255u8 {
-        compare(
-            &MATRIX,
-            &[first],
-            if (1..=3).contains(&first) { 4 } else { 3 },
-        );
         compare(&ARRAY, &[first], 6);
         for n in 1..=3 {
-            compare(&MATRIX, &[n, first], 5);
             compare(&ARRAY, &[n, first], 6);
         }
     }
@@ -381,15 +421,18 @@ pub fn run(seed: u64, count: u64, output: &mut dyn Write) -> io::Result<()> {
             }
             *byte = match place {
                 0 => random.between(1, 4) as u8,
+                1 if random.one_in(2) => *byte & 0x3B,
                 1 => 0x80 | *byte & 0x33,
-                2 => *byte & 0x13,
+                2 if random.one_in(2) => *byte & 0x13,
                 _ => random.pick(&[
                     0x00, 0x20, 0x40, 0x80, 0xA0, 0xE0, 0x01, 0x81, 0x3C, 0xBC, 0x7B, 0xFF,
                 ]),
             };
         }
-        compare(&MATRIX, &bytes, 5);
-        compare_beginnings(&MATRIX, &bytes);
+        for kind in &MATRICES {
+            compare(kind, &bytes, 5);
+            compare_beginnings(kind, &bytes);
+        }
 
         let length = random.between(2, 9);
         let mut bytes = random.bytes(length);
@@ -408,7 +451,7 @@ pub fn run(seed: u64, count: u64, output: &mut dyn Write) -> io::Result<()> {
 
     // Whole packs, as they are and with one byte changed.
     for i in 0..count {
-        for kind in [&MATRIX, &ARRAY] {
+        for kind in [&MATRICES[0], &MATRICES[1], &ARRAY] {
             let scale = if i % 1000 == 0 {
                 Scale::Any
             } else {
@@ -430,6 +473,17 @@ pub fn run(seed: u64, count: u64, output: &mut dyn Write) -> io::Result<()> {
                 Verdict::Complete(length) => assert_eq!(whole, Some(length)),
                 _ => assert_eq!(whole, None),
             }
+        }
+    }
+    // What is read of a good matrix pack, written again, gives its bytes back.
+    for _ in 0..count {
+        for stated in [false, true] {
+            let bytes = good_matrix(&mut random, Scale::Small, stated).bytes;
+            assert!(
+                same_again(&bytes, stated),
+                "{} is not the same when written again",
+                hex_of_bytes(&bytes)
+            );
         }
     }
     writeln!(output, "ok")

@@ -3,7 +3,7 @@
 use crate::array::{octets, GREATEST_NDIM, LIMIT};
 use crate::frame::{ber_length, hex_of_bytes, ARRAY_KEY, GREATEST_FRAME, MATRIX_KEY};
 use crate::matrix::{
-    allowed_lengths, coefficient_count, lawful_control_1, lawful_control_2, vector_length, Role,
+    allowed_lengths, coefficient_count, lawful_controls, vector_length, Control, Role,
 };
 use std::io::{self, Write};
 
@@ -151,24 +151,20 @@ fn scale(random: &mut Random) -> Scale {
 /// What a generated matrix pack holds.
 struct Matrix {
     n: usize,
-    control_1: u8,
-    control_2: u8,
+    control: Control,
     marks: Vec<bool>,
 }
 
 /// A matrix pack, good in all but perhaps one word.
 fn write_matrix(random: &mut Random, matrix: &Matrix, bad: bool) -> Pack {
     let n = matrix.n;
-    let sparse = matrix.control_1 & 0x20 != 0;
-    let c_mapped = matrix.control_1 & 0x10 != 0;
-    let c_length = (matrix.control_1 & 0x0F) as usize;
-    let s_mapped = matrix.control_2 & 0x10 != 0;
-    let s_length = (matrix.control_2 & 0x0F) as usize;
+    let control = &matrix.control;
     let mut pack = Pack::new();
     pack.add(&[n as u8]);
-    pack.add(&[matrix.control_1]);
-    pack.add(&[matrix.control_2]);
-    if sparse {
+    for byte in control.bytes() {
+        pack.add(&[byte]);
+    }
+    if control.sparse {
         let mut vector = vec![0u8; vector_length(n)];
         for (i, &mark) in matrix.marks.iter().enumerate() {
             if mark {
@@ -177,7 +173,7 @@ fn write_matrix(random: &mut Random, matrix: &Matrix, bad: bool) -> Pack {
         }
         pack.add(&vector);
     }
-    let deviations = if s_length > 0 { n } else { 0 };
+    let deviations = if control.s_length > 0 { n } else { 0 };
     let coefficients = matrix.marks.iter().filter(|&&mark| mark).count();
     let words = deviations + coefficients;
     let bad_place = if bad && words > 0 {
@@ -187,9 +183,9 @@ fn write_matrix(random: &mut Random, matrix: &Matrix, bad: bool) -> Pack {
     };
     for i in 0..words {
         let (length, mapped, role) = if i < deviations {
-            (s_length, s_mapped, Role::Deviation)
+            (control.s_length, control.s_mapped, Role::Deviation)
         } else {
-            (c_length, c_mapped, Role::Coefficient)
+            (control.c_length, control.c_mapped, Role::Coefficient)
         };
         let word = if i == bad_place {
             bad_word(random, length, mapped, role)
@@ -201,8 +197,23 @@ fn write_matrix(random: &mut Random, matrix: &Matrix, bad: bool) -> Pack {
     pack
 }
 
+/// What the control bytes of an N by N pack say, of the greatest lengths if that is asked for.
+fn choose_control(random: &mut Random, n: usize, stated: bool, greatest: bool) -> Control {
+    let mode = if random.one_in(3) { 1 } else { 2 };
+    let mut list = lawful_controls(n, mode, stated);
+    if greatest {
+        let (c, s) = match (mode, stated) {
+            (1, true) => (7, 7),
+            (1, false) => (7, 4),
+            _ => (8, 8),
+        };
+        list.retain(|control| control.c_length == c && control.s_length == s);
+    }
+    random.pick(&list)
+}
+
 /// The fields of a matrix pack.
-fn choose_matrix(random: &mut Random, scale: Scale) -> Matrix {
+fn choose_matrix(random: &mut Random, scale: Scale, stated: bool) -> Matrix {
     let n = match scale {
         Scale::Small => match random.below(10) {
             0..=6 => random.between(1, 4),
@@ -215,25 +226,10 @@ fn choose_matrix(random: &mut Random, scale: Scale) -> Matrix {
         },
         Scale::Greatest => 64,
     };
-    let (control_1, c1) = {
-        let list = lawful_control_1(n);
-        list[random.below(list.len())]
-    };
-    let (control_2, _) = {
-        let list = lawful_control_2(c1);
-        list[random.below(list.len())]
-    };
-    let (control_1, control_2) = if scale == Scale::Greatest {
-        (
-            random.pick(&[0x98, 0x88, 0xB8, 0xA8]),
-            random.pick(&[0x18, 0x08]),
-        )
-    } else {
-        (control_1, control_2)
-    };
+    let control = choose_control(random, n, stated, scale == Scale::Greatest);
     let m = coefficient_count(n);
-    let mut marks = vec![c1.length > 0 || scale == Scale::Greatest; m];
-    if control_1 & 0x20 != 0 {
+    let mut marks = vec![control.c_length > 0; m];
+    if control.sparse {
         let share = random.below(5);
         for mark in &mut marks {
             *mark = match share {
@@ -244,34 +240,30 @@ fn choose_matrix(random: &mut Random, scale: Scale) -> Matrix {
                 _ => true,
             };
         }
-        if control_2 & 0x0F == 0 && !marks.contains(&true) {
+        if control.s_length == 0 && !marks.contains(&true) {
             marks[random.below(m)] = true;
         }
     }
-    Matrix {
-        n,
-        control_1,
-        control_2,
-        marks,
-    }
+    Matrix { n, control, marks }
 }
 
-pub fn good_matrix(random: &mut Random, scale: Scale) -> Pack {
-    let matrix = choose_matrix(random, scale);
+pub fn good_matrix(random: &mut Random, scale: Scale, stated: bool) -> Pack {
+    let matrix = choose_matrix(random, scale, stated);
     write_matrix(random, &matrix, false)
 }
 
-/// A value length that the format does not allow.
-fn wrong_length(random: &mut Random, mapped: bool) -> u8 {
+/// A value length below the given one that the format does not allow.
+fn wrong_length(random: &mut Random, mode: u8, mapped: bool, above: usize) -> u8 {
     loop {
-        let length = random.below(16);
-        if !allowed_lengths(mapped).contains(&length) {
+        let length = random.below(above);
+        if !allowed_lengths(mode, mapped).contains(&length) {
             return length as u8;
         }
     }
 }
 
-/// A matrix pack made to be refused for a reason from 1 to 11.
+/// A matrix pack made to be refused for a reason from 1 to 11, where deviations are stated to be
+/// IEEE.
 fn bad_matrix(random: &mut Random, reason: usize) -> Vec<u8> {
     loop {
         let scale = if random.one_in(12) {
@@ -279,59 +271,51 @@ fn bad_matrix(random: &mut Random, reason: usize) -> Vec<u8> {
         } else {
             Scale::Small
         };
-        let mut matrix = choose_matrix(random, scale);
+        let mut matrix = choose_matrix(random, scale, false);
         let m = coefficient_count(matrix.n);
         match reason {
+            // Mode 1 has neither a second byte nor a reserved bit.
+            4 | 5 if matrix.control.mode == 1 => continue,
+            8 if matrix.n == 1 || matrix.control.c_length == 0 => continue,
             9 if random.one_in(2) => {
                 // A sparse pack without a 1 and without deviations.
-                if m == 0 || matrix.control_1 & 0x0F == 0 {
+                if m == 0 || matrix.control.c_length == 0 {
                     continue;
                 }
-                matrix.control_1 |= 0x20;
-                matrix.control_2 &= 0x10;
+                matrix.control.sparse = true;
+                matrix.control.s_length = 0;
                 matrix.marks = vec![false; m];
             }
-            10 => {
-                if m % 8 == 0 || matrix.control_1 & 0x20 == 0 {
-                    continue;
-                }
-            }
+            10 if m % 8 == 0 || !matrix.control.sparse => continue,
             _ => {}
         }
         let mut bytes = write_matrix(random, &matrix, reason == 11).bytes;
+        let control = &matrix.control;
         let on_first = random.one_in(2);
-        match reason {
-            1 => bytes[0] = 0,
-            2 => bytes[0] = random.pick(&[0x41, 0x42, 0x7F, 0x81, 0x82, 0xC0, 0xFF]),
-            3 => bytes[0] = 0x80,
-            4 if on_first => bytes[1] &= 0x7F,
-            4 => bytes[2] |= 0x80,
-            5 if on_first => bytes[1] |= 0x40,
-            5 => bytes[2] |= random.pick(&[0x20, 0x40, 0x60]),
-            6 if on_first => {
-                let mapped = bytes[1] & 0x10 != 0;
-                bytes[1] = bytes[1] & 0xF0 | wrong_length(random, mapped);
+        match (reason, control.mode) {
+            (1, _) => bytes[0] = 0,
+            (2, _) => bytes[0] = random.pick(&[0x41, 0x42, 0x7F, 0x81, 0x82, 0xC0, 0xFF]),
+            (3, _) => bytes[0] = 0x80,
+            (4, _) => bytes[2] |= 0x80,
+            (5, _) if on_first => bytes[1] |= 0x40,
+            (5, _) => bytes[2] |= random.pick(&[0x20, 0x40, 0x60]),
+            (6, 1) => bytes[1] = bytes[1] & 0x0F | wrong_length(random, 1, false, 8) << 4,
+            (6, _) if on_first => {
+                bytes[1] = bytes[1] & 0xF0 | wrong_length(random, 2, control.c_mapped, 16)
             }
-            6 => {
-                let mapped = bytes[2] & 0x10 != 0;
-                bytes[2] = bytes[2] & 0xF0 | wrong_length(random, mapped);
+            (6, _) => bytes[2] = bytes[2] & 0xF0 | wrong_length(random, 2, control.s_mapped, 16),
+            (7, 1) => bytes[1] = bytes[1] & 0x70 | 0x08,
+            (7, _) => bytes[1] = random.pick(&[0xA0, 0xB0]),
+            (8, _) => bytes[0] = 1,
+            (9, 1) if !control.sparse => bytes[1] = 0,
+            (9, _) if !control.sparse => {
+                bytes[1] &= 0x90;
+                bytes[2] &= 0x10;
             }
-            7 => bytes[1] = random.pick(&[0xA0, 0xB0]),
-            8 => {
-                if matrix.n == 1 || bytes[1] & 0x0F == 0 {
-                    continue;
-                }
-                bytes[0] = 1;
-            }
-            9 => {
-                if bytes[1] & 0x20 == 0 {
-                    bytes[1] &= 0x90;
-                    bytes[2] &= 0x10;
-                }
-            }
-            10 => {
+            (10, mode) => {
                 let unused = vector_length(matrix.n) * 8 - m;
-                bytes[2 + vector_length(matrix.n)] |= 1 << random.below(unused);
+                let last = mode as usize + vector_length(matrix.n);
+                bytes[last] |= 1 << random.below(unused);
             }
             _ => {}
         }
@@ -483,7 +467,7 @@ fn key(kind: Kind) -> [u8; 16] {
 fn good_pack(random: &mut Random, kind: Kind) -> Pack {
     let scale = scale(random);
     match kind {
-        Kind::Matrix => good_matrix(random, scale),
+        Kind::Matrix => good_matrix(random, scale, false),
         Kind::Array => good_array(random, scale),
     }
 }
@@ -616,6 +600,7 @@ fn line(random: &mut Random) -> Vec<u8> {
                 if random.one_in(2) {
                     *byte = match (kind, place) {
                         (_, 0) => random.between(1, 4) as u8,
+                        (Kind::Matrix, 1) if random.one_in(2) => *byte & 0x6B,
                         (Kind::Matrix, 1) => 0x80 | *byte & 0x33,
                         (Kind::Matrix, 2) => *byte & 0x13,
                         (Kind::Matrix, _) => *byte & 0x7F,

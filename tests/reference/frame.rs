@@ -99,8 +99,9 @@ pub fn examine(line: &[u8]) -> (char, &'static str, usize, usize) {
         return (kind, "BAD", 23, 0);
     }
 
+    // Frames take deviations as IEEE where the pack does not say.
     let verdict = if kind == 'S' {
-        matrix::verdict(value)
+        matrix::verdict(value, false)
     } else {
         array::verdict(value)
     };

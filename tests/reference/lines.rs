@@ -2,7 +2,8 @@
 
 use crate::array::{octets, LIMIT};
 use crate::frame::{ber_length, hex_of_bytes, ARRAY_KEY, GREATEST_FRAME, MATRIX_KEY};
-use crate::rows::{formats, sizes_header, vector, whole_matrix};
+use crate::mode1::{controls, ones, whole_single};
+use crate::rows::{formats, sizes_header, vector, whole_matrix, whole_pack};
 use std::io::{self, Write};
 
 const NO_VALUES: (bool, usize) = (false, 0);
@@ -39,6 +40,22 @@ fn every_format() -> Vec<Vec<u8>> {
     packs
 }
 
+/// Every single control byte with its values, and each such byte alone.
+fn every_single() -> Vec<Vec<u8>> {
+    let mut packs = Vec::new();
+    for n in [1, 2, 3] {
+        for control in controls(n, false) {
+            for ones in ones(n, &control) {
+                packs.push(whole_pack(n, &control, ones.as_deref()));
+            }
+        }
+        for byte in 0..=0x7F {
+            packs.push(vec![n as u8, byte]);
+        }
+    }
+    packs
+}
+
 /// The greatest packs.
 fn greatest() -> Vec<Vec<u8>> {
     let all: Vec<usize> = (0..2016).collect();
@@ -48,6 +65,9 @@ fn greatest() -> Vec<Vec<u8>> {
         whole_matrix(64, (false, 8), (false, 8), None),
         whole_matrix(64, (true, 8), (true, 8), Some(&vector(64, &all))),
         whole_matrix(64, (true, 2), (false, 4), Some(&vector(64, &some))),
+        whole_single(64, 7, (false, 4), None),
+        whole_single(64, 7, (false, 4), Some(&vector(64, &all))),
+        whole_single(64, 3, (false, 2), Some(&vector(64, &some))),
     ]
 }
 
@@ -69,6 +89,13 @@ fn small() -> Vec<(&'static [u8; 16], Vec<u8>)> {
         ),
         (&MATRIX_KEY, whole_matrix(2, (false, 8), (true, 3), None)),
         (&MATRIX_KEY, whole_matrix(1, NO_VALUES, (false, 2), None)),
+        (
+            &MATRIX_KEY,
+            whole_single(3, 3, (false, 4), Some(&vector(3, &[0, 2]))),
+        ),
+        (&MATRIX_KEY, whole_single(2, 2, (false, 2), None)),
+        (&MATRIX_KEY, whole_single(2, 1, (false, 0), None)),
+        (&MATRIX_KEY, whole_single(1, 0, (false, 4), None)),
         (&ARRAY_KEY, array(&[2, 3], 4)),
         (&ARRAY_KEY, array(&[1, 2, 1, 3, 1, 1, 2, 1], 2)),
         (&ARRAY_KEY, array(&[128], 1)),
@@ -189,6 +216,11 @@ pub fn make(output: &mut dyn Write) -> io::Result<()> {
     let mut lines: Vec<Vec<u8>> = Vec::new();
     lines.extend(
         every_format()
+            .iter()
+            .map(|value| hex_of_bytes(&frame(&MATRIX_KEY, value)).into_bytes()),
+    );
+    lines.extend(
+        every_single()
             .iter()
             .map(|value| hex_of_bytes(&frame(&MATRIX_KEY, value)).into_bytes()),
     );

@@ -1,7 +1,7 @@
 // A reference implementation of the verdicts on packs and frames: the commands.
 //
-// It is written from the document of exact rules alone and shares nothing with the code that it is
-// compared with.
+// It is written from the document of exact rules, the first of the changes to it (Mode 1) and the
+// standards alone, and shares nothing with the code that it is compared with.
 //
 //     reference report             the report on lines of frames
 //     reference rows               the verdicts on rows of pack bytes
@@ -19,6 +19,7 @@ mod corpus;
 mod frame;
 mod lines;
 mod matrix;
+mod mode1;
 mod rows;
 mod values;
 mod verdict;

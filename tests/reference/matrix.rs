@@ -1,22 +1,57 @@
-// Matrix packs: which packs agree with given bytes, and the verdict on them.
+// Matrix packs: which packs agree with given bytes, and the verdict on them. Where a format is
+// stated, it is that of the deviations in Mode 1: mapped, or IEEE where it is not. Mode 2 does not
+// see it.
 
 use crate::verdict::{first_that_holds, judge, Verdict};
 
 pub const GREATEST_N: usize = 64;
 
-/// What control byte 1 says.
+/// What the control bytes say: one byte in Mode 1, two in Mode 2.
 #[derive(Clone, Copy)]
-pub struct Control1 {
+pub struct Control {
+    pub mode: u8,
     pub sparse: bool,
-    pub mapped: bool,
-    pub length: usize,
+    pub c_mapped: bool,
+    pub c_length: usize,
+    pub s_mapped: bool,
+    pub s_length: usize,
 }
 
-/// What control byte 2 says.
-#[derive(Clone, Copy)]
-pub struct Control2 {
-    pub mapped: bool,
-    pub length: usize,
+impl Control {
+    pub fn bytes(&self) -> Vec<u8> {
+        let sparse = self.sparse as usize;
+        if self.mode == 1 {
+            return vec![(16 * self.s_length + 8 * sparse + self.c_length) as u8];
+        }
+        vec![
+            (128 + 32 * sparse + 16 * self.c_mapped as usize + self.c_length) as u8,
+            (16 * self.s_mapped as usize + self.s_length) as u8,
+        ]
+    }
+
+    /// What the control bytes of a pack say, which are all there.
+    pub fn read(bytes: &[u8], stated: bool) -> Control {
+        let byte = bytes[1];
+        let field = |byte: u8, low: u8, count: u8| (byte >> low & ((1 << count) - 1)) as usize;
+        if field(byte, 7, 1) == 0 {
+            return Control {
+                mode: 1,
+                sparse: field(byte, 3, 1) == 1,
+                c_mapped: true,
+                c_length: field(byte, 0, 3),
+                s_mapped: stated,
+                s_length: field(byte, 4, 3),
+            };
+        }
+        Control {
+            mode: 2,
+            sparse: field(byte, 5, 1) == 1,
+            c_mapped: field(byte, 4, 1) == 1,
+            c_length: field(byte, 0, 4),
+            s_mapped: field(bytes[2], 4, 1) == 1,
+            s_length: field(bytes[2], 0, 4),
+        }
+    }
 }
 
 #[derive(Clone, Copy, PartialEq, Eq)]
@@ -25,52 +60,51 @@ pub enum Role {
     Coefficient,
 }
 
-/// The value lengths that a format allows.
-pub fn allowed_lengths(mapped: bool) -> &'static [usize] {
-    if mapped {
-        &[0, 1, 2, 3, 4, 5, 6, 7, 8]
-    } else {
-        &[0, 2, 4, 8]
+/// The value lengths that a format allows in a mode.
+pub fn allowed_lengths(mode: u8, mapped: bool) -> &'static [usize] {
+    match (mode, mapped) {
+        (1, true) => &[0, 1, 2, 3, 4, 5, 6, 7],
+        (1, false) => &[0, 2, 4],
+        (_, true) => &[0, 1, 2, 3, 4, 5, 6, 7, 8],
+        (_, false) => &[0, 2, 4, 8],
     }
 }
 
-/// Every lawful control byte 1 of an N by N pack, written from its fields.
-pub fn lawful_control_1(n: usize) -> Vec<(u8, Control1)> {
+/// The formats of coefficients and of deviations that go together in a mode.
+fn allowed_formats(mode: u8, stated: bool) -> &'static [(bool, bool)] {
+    match (mode, stated) {
+        (1, true) => &[(true, true)],
+        (1, false) => &[(true, false)],
+        _ => &[(false, false), (false, true), (true, false), (true, true)],
+    }
+}
+
+/// All that the control bytes of an N by N pack may say in a mode.
+pub fn lawful_controls(n: usize, mode: u8, stated: bool) -> Vec<Control> {
     let mut list = Vec::new();
-    for sparse in [false, true] {
-        for mapped in [false, true] {
-            for &length in allowed_lengths(mapped) {
-                if sparse && length == 0 {
-                    continue;
-                }
-                if n == 1 && length > 0 {
-                    continue;
-                }
-                let byte = 128 + 32 * sparse as usize + 16 * mapped as usize + length;
-                list.push((
-                    byte as u8,
-                    Control1 {
+    for &(c_mapped, s_mapped) in allowed_formats(mode, stated) {
+        for &c_length in allowed_lengths(mode, c_mapped) {
+            for &s_length in allowed_lengths(mode, s_mapped) {
+                for sparse in [false, true] {
+                    if sparse && c_length == 0 {
+                        continue;
+                    }
+                    if n == 1 && c_length > 0 {
+                        continue;
+                    }
+                    if s_length == 0 && c_length == 0 {
+                        continue;
+                    }
+                    list.push(Control {
+                        mode,
                         sparse,
-                        mapped,
-                        length,
-                    },
-                ));
+                        c_mapped,
+                        c_length,
+                        s_mapped,
+                        s_length,
+                    });
+                }
             }
-        }
-    }
-    list
-}
-
-/// Every lawful control byte 2 behind a control byte 1, written from its fields.
-pub fn lawful_control_2(control_1: Control1) -> Vec<(u8, Control2)> {
-    let mut list = Vec::new();
-    for mapped in [false, true] {
-        for &length in allowed_lengths(mapped) {
-            if length == 0 && control_1.length == 0 {
-                continue;
-            }
-            let byte = 16 * mapped as usize + length;
-            list.push((byte as u8, Control2 { mapped, length }));
         }
     }
     list
@@ -136,11 +170,12 @@ pub fn has_lawful_ending(begun: &[u8], length: usize, mapped: bool, role: Role) 
     lawful_word(word, length, mapped, role)
 }
 
-/// The shortest pack with this size and these control bytes whose bytes behind the control bytes
-/// agree with `rest`.
-fn shortest_behind_control(n: usize, c1: Control1, c2: Control2, rest: &[u8]) -> Option<usize> {
+/// How many bytes the shortest pack with this size and control has behind its control bytes, if its
+/// bytes there agree with `rest`.
+fn shortest_behind_control(n: usize, control: &Control, rest: &[u8]) -> Option<usize> {
     let m = coefficient_count(n);
-    let vector_bytes = if c1.sparse { vector_length(n) } else { 0 };
+    let (c_length, s_length) = (control.c_length, control.s_length);
+    let vector_bytes = if control.sparse { vector_length(n) } else { 0 };
 
     // The bits of the vector that are there, the first in the top of the first byte.
     let mut bits = Vec::new();
@@ -157,9 +192,9 @@ fn shortest_behind_control(n: usize, c1: Control1, c2: Control2, rest: &[u8]) ->
 
     // All the counts of coefficients that the bits to come may still make, the shortest pack being
     // the one with the fewest.
-    let coefficients = if c1.sparse {
-        (sent_so_far..=sent_so_far + bits_to_come).find(|&count| count > 0 || c2.length > 0)?
-    } else if c1.length > 0 {
+    let coefficients = if control.sparse {
+        (sent_so_far..=sent_so_far + bits_to_come).find(|&count| count > 0 || s_length > 0)?
+    } else if c_length > 0 {
         m
     } else {
         0
@@ -167,19 +202,15 @@ fn shortest_behind_control(n: usize, c1: Control1, c2: Control2, rest: &[u8]) ->
 
     // Each word of which something is there must have a lawful ending. Such words come only behind
     // a whole vector, where the count of coefficients is certain.
-    let values = if rest.len() > vector_bytes {
-        &rest[vector_bytes..]
-    } else {
-        &[]
-    };
-    let deviations = if c2.length > 0 { n } else { 0 };
+    let values = rest.get(vector_bytes..).unwrap_or(&[]);
+    let deviations = if s_length > 0 { n } else { 0 };
     let words = (0..deviations)
-        .map(|i| (i * c2.length, c2.length, c2.mapped, Role::Deviation))
+        .map(|i| (i * s_length, s_length, control.s_mapped, Role::Deviation))
         .chain((0..coefficients).map(|i| {
             (
-                n * c2.length + i * c1.length,
-                c1.length,
-                c1.mapped,
+                n * s_length + i * c_length,
+                c_length,
+                control.c_mapped,
                 Role::Coefficient,
             )
         }));
@@ -192,28 +223,25 @@ fn shortest_behind_control(n: usize, c1: Control1, c2: Control2, rest: &[u8]) ->
             return None;
         }
     }
-    Some(3 + vector_bytes + n * c2.length + coefficients * c1.length)
+    Some(vector_bytes + n * s_length + coefficients * c_length)
 }
 
-/// The shortest matrix pack that agrees with the bytes: all sizes and all control bytes are tried.
-pub fn shortest(bytes: &[u8]) -> Option<usize> {
+/// The shortest matrix pack that agrees with the bytes: all sizes, both modes and all that their
+/// control bytes may say are tried.
+pub fn shortest(bytes: &[u8], stated: bool) -> Option<usize> {
     let agrees = |place: usize, byte: u8| place >= bytes.len() || bytes[place] == byte;
-    let rest = if bytes.len() > 3 { &bytes[3..] } else { &[] };
     let mut best: Option<usize> = None;
-    for n in 1..=GREATEST_N {
-        if !agrees(0, n as u8) {
-            continue;
-        }
-        for (byte_1, c1) in lawful_control_1(n) {
-            if !agrees(1, byte_1) {
-                continue;
-            }
-            for (byte_2, c2) in lawful_control_2(c1) {
-                if !agrees(2, byte_2) {
+    for n in (1..=GREATEST_N).filter(|&n| agrees(0, n as u8)) {
+        for mode in [1, 2] {
+            for control in lawful_controls(n, mode, stated) {
+                let written = control.bytes();
+                if !(0..written.len()).all(|i| agrees(1 + i, written[i])) {
                     continue;
                 }
-                if let Some(length) = shortest_behind_control(n, c1, c2, rest) {
-                    best = Some(best.map_or(length, |b| b.min(length)));
+                let head = 1 + written.len();
+                let rest = bytes.get(head..).unwrap_or(&[]);
+                if let Some(more) = shortest_behind_control(n, &control, rest) {
+                    best = Some(best.map_or(head + more, |b| b.min(head + more)));
                 }
             }
         }
@@ -222,43 +250,67 @@ pub fn shortest(bytes: &[u8]) -> Option<usize> {
 }
 
 /// Why the last of these bytes is refused, by the order within one byte.
-fn reason(bytes: &[u8]) -> u32 {
+fn reason(bytes: &[u8], stated: bool) -> u32 {
     let last = bytes[bytes.len() - 1];
-    let length = (last & 0x0F) as usize;
-    let length_allowed = allowed_lengths(last & 0x10 != 0).contains(&length);
-    match bytes.len() {
-        1 => first_that_holds(&[(last == 0x00, 1), (last == 0x80, 3), (last > 64, 2)]),
-        2 => first_that_holds(&[
-            (last & 0x80 == 0, 4),
-            (last & 0x40 != 0, 5),
-            (!length_allowed, 6),
-            (last & 0x20 != 0 && length == 0, 7),
-            (bytes[0] == 1 && length > 0, 8),
-        ]),
-        3 => first_that_holds(&[
-            (last & 0x80 != 0, 4),
-            (last & 0x60 != 0, 5),
-            (!length_allowed, 6),
-            (length == 0 && bytes[1] & 0x0F == 0, 9),
-        ]),
-        count => {
-            let n = bytes[0] as usize;
-            let sparse = bytes[1] & 0x20 != 0;
-            let vector_end = 3 + vector_length(n);
-            if !sparse || count > vector_end {
-                return 11;
-            }
-            let unused = 8 * vector_length(n) - coefficient_count(n);
-            let unused_bits = ((1u32 << unused) - 1) as u8;
-            let no_bit = bytes[3..].iter().all(|&byte| byte == 0);
-            first_that_holds(&[
-                (count == vector_end && last & unused_bits != 0, 10),
-                (count == vector_end && no_bit && bytes[2] & 0x0F == 0, 9),
-            ])
-        }
+    if bytes.len() == 1 {
+        return first_that_holds(&[(last == 0x00, 1), (last == 0x80, 3), (last > 64, 2)]);
     }
+    let n = bytes[0] as usize;
+    let head = if bytes[1] & 0x80 == 0 { 2 } else { 3 };
+    if bytes.len() <= head {
+        return control_reason(n, &bytes[1..], stated);
+    }
+    let control = Control::read(bytes, stated);
+    let vector_end = head + vector_length(n);
+    if !control.sparse || bytes.len() > vector_end {
+        return 11;
+    }
+    let whole = bytes.len() == vector_end;
+    let unused = 8 * vector_length(n) - coefficient_count(n);
+    let unused_bits = ((1u32 << unused) - 1) as u8;
+    let no_bit = bytes[head..].iter().all(|&byte| byte == 0);
+    first_that_holds(&[
+        (whole && last & unused_bits != 0, 10),
+        (whole && no_bit && control.s_length == 0, 9),
+    ])
 }
 
-pub fn verdict(bytes: &[u8]) -> Verdict {
-    judge(bytes, shortest, reason)
+/// Why the last of these control bytes is refused.
+fn control_reason(n: usize, control: &[u8], stated: bool) -> u32 {
+    let last = control[control.len() - 1];
+    let wrong = |mode: u8, mapped: bool, length: u8| {
+        !allowed_lengths(mode, mapped).contains(&(length as usize))
+    };
+    if control[0] & 0x80 == 0 {
+        let (s_length, c_length) = (last >> 4, last & 0x07);
+        return first_that_holds(&[
+            (wrong(1, stated, s_length), 6),
+            (last & 0x08 != 0 && c_length == 0, 7),
+            (n == 1 && c_length > 0, 8),
+            (s_length == 0 && c_length == 0, 9),
+        ]);
+    }
+    let length = last & 0x0F;
+    if control.len() == 1 {
+        return first_that_holds(&[
+            (last & 0x40 != 0, 5),
+            (wrong(2, last & 0x10 != 0, length), 6),
+            (last & 0x20 != 0 && length == 0, 7),
+            (n == 1 && length > 0, 8),
+        ]);
+    }
+    first_that_holds(&[
+        (last & 0x80 != 0, 4),
+        (last & 0x60 != 0, 5),
+        (wrong(2, last & 0x10 != 0, length), 6),
+        (length == 0 && control[0] & 0x0F == 0, 9),
+    ])
+}
+
+pub fn verdict(bytes: &[u8], stated: bool) -> Verdict {
+    judge(
+        bytes,
+        |bytes| shortest(bytes, stated),
+        |bytes| reason(bytes, stated),
+    )
 }

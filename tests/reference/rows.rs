@@ -3,11 +3,24 @@
 use crate::array::{octets, LIMIT};
 use crate::corpus::greatest_word;
 use crate::frame::{bytes_of_hex, hex_of_bytes};
-use crate::matrix::{allowed_lengths, coefficient_count, vector_length, Role};
-use crate::verdict::Verdict;
-use crate::{address, array, matrix, values, writes};
+use crate::matrix::{allowed_lengths, coefficient_count, vector_length, Control, Role};
+use crate::{address, array, matrix, mode1, values, writes};
 use std::collections::HashSet;
 use std::io::{self, BufRead, Write};
+
+/// The format that a row states behind its letter: a space for IEEE, a star for mapped.
+pub fn stated(line: &str) -> Option<bool> {
+    match line.as_bytes().get(1)? {
+        b' ' => Some(false),
+        b'*' if line.starts_with(['S', 's', 'U', 'E', 'C', 'R', 'W']) => Some(true),
+        _ => None,
+    }
+}
+
+/// How a row of this kind begins.
+pub fn letters(kind: char, stated: bool) -> String {
+    format!("{}{}", kind, if stated { '*' } else { ' ' })
+}
 
 /// Prints each row with what is said of it. "S" and "M" are followed by the bytes of a matrix and of
 /// an array pack; for a lower-case kind the verdicts on all shorter beginnings come first.
@@ -15,6 +28,7 @@ pub fn run(input: &mut dyn BufRead, output: &mut dyn Write) -> io::Result<()> {
     for line in input.lines() {
         let line = line?;
         let wrong = || io::Error::new(io::ErrorKind::InvalidData, format!("not a row: {}", line));
+        let stated = stated(&line).ok_or_else(wrong)?;
         let kind = line.chars().next().ok_or_else(wrong)?;
         let said = match kind {
             'A' => Some(addressed(&line).ok_or_else(wrong)?),
@@ -22,32 +36,35 @@ pub fn run(input: &mut dyn BufRead, output: &mut dyn Write) -> io::Result<()> {
             'W' | 'X' => Some(writes::said(&line).ok_or_else(wrong)?),
             _ => None,
         };
-        if kind == 'R' || kind == 'Q' {
-            writeln!(output, "{} {} same", kind, (line.len() - 2) / 2)?;
-            continue;
-        }
         if let Some(said) = said {
             writeln!(output, "{} {}", line, said)?;
             continue;
         }
-        let verdict: fn(&[u8]) -> Verdict = match kind {
-            'S' | 's' => matrix::verdict,
-            'M' | 'm' => array::verdict,
-            _ => return Err(wrong()),
+        let bytes = bytes_of_hex(line[2..].as_bytes()).ok_or_else(wrong)?;
+        if kind == 'R' || kind == 'Q' {
+            let same = kind == 'Q' || writes::same_again(&bytes, stated);
+            writeln!(
+                output,
+                "{}{} {} {}",
+                kind,
+                if stated { "*" } else { "" },
+                bytes.len(),
+                if same { "same" } else { "differs" }
+            )?;
+            continue;
+        }
+        let verdict = |bytes: &[u8]| match kind {
+            'S' | 's' => Some(matrix::verdict(bytes, stated)),
+            'M' | 'm' => Some(array::verdict(bytes)),
+            _ => None,
         };
-        let behind = &line[1..];
-        let hex = if behind.is_empty() {
-            behind
-        } else {
-            behind.strip_prefix(' ').ok_or_else(wrong)?
-        };
-        let bytes = bytes_of_hex(hex.as_bytes()).ok_or_else(wrong)?;
         if kind.is_lowercase() {
             for k in 0..bytes.len() {
-                writeln!(output, "{} {}", k, verdict(&bytes[..k]))?;
+                let verdict = verdict(&bytes[..k]).ok_or_else(wrong)?;
+                writeln!(output, "{} {}", k, verdict)?;
             }
         }
-        writeln!(output, "{} {}", line, verdict(&bytes))?;
+        writeln!(output, "{} {}", line, verdict(&bytes).ok_or_else(wrong)?)?;
     }
     Ok(())
 }
@@ -81,36 +98,46 @@ fn addressed(line: &str) -> Option<String> {
     ))
 }
 
-/// A list of rows, in which none stands twice.
-struct Rows(Vec<(char, Vec<u8>)>);
+/// A list of rows, in which none stands twice: kind, stated format, bytes.
+pub struct Rows(Vec<(char, bool, Vec<u8>)>);
 
 impl Rows {
+    /// A row under the stated format IEEE, or of an array.
     fn add(&mut self, kind: char, bytes: &[u8]) {
-        self.0.push((kind, bytes.to_vec()));
+        self.under(false, kind, bytes);
+    }
+
+    pub fn under(&mut self, stated: bool, kind: char, bytes: &[u8]) {
+        self.0.push((kind, stated, bytes.to_vec()));
     }
 
     fn hex(&mut self, kind: char, text: &str) {
+        self.hex_under(false, kind, text);
+    }
+
+    pub fn hex_under(&mut self, stated: bool, kind: char, text: &str) {
         let packed: String = text.chars().filter(|c| *c != ' ').collect();
         let bytes = bytes_of_hex(packed.as_bytes()).expect("a row of hexadecimal");
-        self.add(kind, &bytes);
+        self.under(stated, kind, &bytes);
     }
 
     /// All rows once; a row whose beginnings are asked for elsewhere stands only there.
     fn print(&self, output: &mut dyn Write) -> io::Result<()> {
-        let with_beginnings: HashSet<(char, &[u8])> = self
+        let with_beginnings: HashSet<(char, bool, &[u8])> = self
             .0
             .iter()
-            .filter(|(kind, _)| kind.is_lowercase())
-            .map(|(kind, bytes)| (*kind, bytes.as_slice()))
+            .filter(|(kind, _, _)| kind.is_lowercase())
+            .map(|(kind, stated, bytes)| (*kind, *stated, bytes.as_slice()))
             .collect();
         let mut seen = HashSet::new();
-        for (kind, bytes) in &self.0 {
+        for (kind, stated, bytes) in &self.0 {
             let lower = kind.to_ascii_lowercase();
-            if kind.is_uppercase() && with_beginnings.contains(&(lower, bytes.as_slice())) {
+            let elsewhere = with_beginnings.contains(&(lower, *stated, bytes.as_slice()));
+            if kind.is_uppercase() && elsewhere {
                 continue;
             }
-            if seen.insert((*kind, bytes)) {
-                writeln!(output, "{} {}", kind, hex_of_bytes(bytes))?;
+            if seen.insert((*kind, *stated, bytes)) {
+                writeln!(output, "{}{}", letters(*kind, *stated), hex_of_bytes(bytes))?;
             }
         }
         Ok(())
@@ -118,7 +145,7 @@ impl Rows {
 }
 
 /// The rows of the reference table, as they stand in the document of exact rules.
-const TABLE: &[(char, &str)] = &[
+pub const TABLE: &[(char, &str)] = &[
     ('S', ""),
     ('S', "01"),
     ('S', "02"),
@@ -148,11 +175,11 @@ const TABLE: &[(char, &str)] = &[
     ('S', "03 B2 04 A0 3F800000 40000000 40800000 6000 2000"),
 ];
 
-/// The formats of values that are there: mapped or not, with the length.
+/// The formats of values that are there in Mode 2: mapped or not, with the length.
 pub fn formats() -> Vec<(bool, usize)> {
     let mut list = Vec::new();
     for mapped in [true, false] {
-        for &length in allowed_lengths(mapped) {
+        for &length in allowed_lengths(2, mapped) {
             if length > 0 {
                 list.push((mapped, length));
             }
@@ -187,31 +214,55 @@ fn some_word(i: usize, length: usize, mapped: bool, role: Role) -> Vec<u8> {
 }
 
 /// A whole matrix pack with some words. `vector` is there for a sparse one.
+pub fn whole_pack(n: usize, control: &Control, vector: Option<&[u8]>) -> Vec<u8> {
+    let mut bytes = vec![n as u8];
+    bytes.extend(control.bytes());
+    let mut coefficients = if control.c_length > 0 {
+        coefficient_count(n)
+    } else {
+        0
+    };
+    if let Some(vector) = vector {
+        coefficients = vector.iter().map(|byte| byte.count_ones() as usize).sum();
+        bytes.extend_from_slice(vector);
+    }
+    if control.s_length > 0 {
+        for i in 0..n {
+            bytes.extend(some_word(
+                i,
+                control.s_length,
+                control.s_mapped,
+                Role::Deviation,
+            ));
+        }
+    }
+    for i in 0..coefficients {
+        bytes.extend(some_word(
+            i,
+            control.c_length,
+            control.c_mapped,
+            Role::Coefficient,
+        ));
+    }
+    bytes
+}
+
+/// Likewise in Mode 2, of these formats and lengths.
 pub fn whole_matrix(
     n: usize,
     c: (bool, usize),
     s: (bool, usize),
     vector: Option<&[u8]>,
 ) -> Vec<u8> {
-    let mut bytes = vec![
-        n as u8,
-        control_1(vector.is_some(), c.0, c.1),
-        control_2(s.0, s.1),
-    ];
-    let mut coefficients = if c.1 > 0 { coefficient_count(n) } else { 0 };
-    if let Some(vector) = vector {
-        coefficients = vector.iter().map(|byte| byte.count_ones() as usize).sum();
-        bytes.extend_from_slice(vector);
-    }
-    if s.1 > 0 {
-        for i in 0..n {
-            bytes.extend(some_word(i, s.1, s.0, Role::Deviation));
-        }
-    }
-    for i in 0..coefficients {
-        bytes.extend(some_word(i, c.1, c.0, Role::Coefficient));
-    }
-    bytes
+    let control = Control {
+        mode: 2,
+        sparse: vector.is_some(),
+        c_mapped: c.0,
+        c_length: c.1,
+        s_mapped: s.0,
+        s_length: s.1,
+    };
+    whole_pack(n, &control, vector)
 }
 
 /// A bit vector for N by N with these bits.
@@ -281,7 +332,7 @@ fn matrix_formats(rows: &mut Rows) {
 
 /// The words about the greatest one of a format: with each byte raised by one and with each byte
 /// lowered by one, noughts or FF behind it.
-fn words_about(greatest: &[u8]) -> Vec<Vec<u8>> {
+pub fn words_about(greatest: &[u8]) -> Vec<Vec<u8>> {
     let mut list = Vec::new();
     for place in 0..greatest.len() {
         for up in [true, false] {
@@ -786,6 +837,7 @@ pub fn make(output: &mut dyn Write) -> io::Result<()> {
     array_sizes(&mut rows);
     array_elements(&mut rows);
     array_bodies(&mut rows);
+    mode1::make(&mut rows);
     rows.print(output)?;
     let others = [address::make(), values::make(), writes::make()];
     for row in others.iter().flatten() {

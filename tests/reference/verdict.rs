@@ -32,8 +32,8 @@ impl fmt::Display for Verdict {
 /// that spoils the matter is found by halving.
 pub fn judge(
     bytes: &[u8],
-    shortest: fn(&[u8]) -> Option<usize>,
-    reason: fn(&[u8]) -> u32,
+    shortest: impl Fn(&[u8]) -> Option<usize>,
+    reason: impl Fn(&[u8]) -> u32,
 ) -> Verdict {
     match shortest(bytes) {
         Some(length) if length <= bytes.len() => Verdict::Complete(length),

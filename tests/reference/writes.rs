@@ -3,13 +3,16 @@
 use crate::array::{octets, LIMIT};
 use crate::corpus::greatest_word;
 use crate::frame::{self, bytes_of_hex, hex_of_bytes};
-use crate::matrix::{allowed_lengths, coefficient_count, vector_length, Role};
-use crate::rows::formats;
+use crate::matrix::{self, allowed_lengths, coefficient_count, vector_length, Control, Role};
+use crate::rows::{formats, letters, stated};
+use crate::values::values;
+use crate::verdict::Verdict;
 use std::io::{self, BufRead, Write};
 
-/// What the writer of matrices is given.
+/// What the writer of matrices is given, beside the stated format.
 #[derive(Clone)]
 struct Given {
+    mode: u8,
     n: usize,
     sparse: bool,
     coefficients_mapped: bool,
@@ -35,15 +38,31 @@ fn keeps(mapped: bool, length: usize, role: Role, word: u64) -> bool {
     own <= greatest_word(length, mapped, role)
 }
 
-/// The refusal, in the document's order, or the bytes.
-fn write_matrix(g: &Given, room: usize) -> Result<Vec<u8>, u32> {
+/// The refusal, in the document's order, or the bytes. Mode 1 judges lengths by its own formats,
+/// whatever formats are given; that these are its own is one of the causes of 14.
+fn write_matrix(g: &Given, stated: bool, room: usize) -> Result<Vec<u8>, u32> {
+    if g.mode != 1 && g.mode != 2 {
+        return Err(14);
+    }
+    let control = Control {
+        mode: g.mode,
+        sparse: g.sparse,
+        c_mapped: g.mode == 1 || g.coefficients_mapped,
+        c_length: g.coefficient_length,
+        s_mapped: if g.mode == 1 {
+            stated
+        } else {
+            g.deviations_mapped
+        },
+        s_length: g.deviation_length,
+    };
     if g.n == 0 {
         return Err(1);
     }
     if g.n > 64 {
         return Err(2);
     }
-    if !allowed_lengths(g.coefficients_mapped).contains(&g.coefficient_length) {
+    if !allowed_lengths(g.mode, control.c_mapped).contains(&g.coefficient_length) {
         return Err(6);
     }
     if g.sparse && g.coefficient_length == 0 {
@@ -52,11 +71,14 @@ fn write_matrix(g: &Given, room: usize) -> Result<Vec<u8>, u32> {
     if g.n == 1 && g.coefficient_length > 0 {
         return Err(8);
     }
-    if !allowed_lengths(g.deviations_mapped).contains(&g.deviation_length) {
+    if !allowed_lengths(g.mode, control.s_mapped).contains(&g.deviation_length) {
         return Err(6);
     }
     if g.deviation_length == 0 && g.coefficient_length == 0 {
         return Err(9);
+    }
+    if g.coefficients_mapped != control.c_mapped || g.deviations_mapped != control.s_mapped {
+        return Err(14);
     }
     let m = coefficient_count(g.n);
     if g.deviations.len() < g.n || g.coefficients.len() < m || g.marks.len() < m {
@@ -99,14 +121,8 @@ fn write_matrix(g: &Given, room: usize) -> Result<Vec<u8>, u32> {
     }) {
         return Err(11);
     }
-    let flag = |flag: bool, value: u8| if flag { value } else { 0 };
-    let mut bytes = vec![
-        g.n as u8,
-        0x80 | flag(g.sparse, 0x20)
-            | flag(g.coefficients_mapped, 0x10)
-            | g.coefficient_length as u8,
-        flag(g.deviations_mapped, 0x10) | g.deviation_length as u8,
-    ];
+    let mut bytes = vec![g.n as u8];
+    bytes.extend(control.bytes());
     if g.sparse {
         let mut vector = vec![0; vector_length(g.n)];
         for i in 0..m {
@@ -198,27 +214,53 @@ pub fn said(line: &str) -> Option<String> {
         let room = number(&mut rest)? as usize;
         return Some(answer(write_array(&sizes, element, count, room)));
     }
-    let (head, mut rest) = bytes.split_at_checked(10)?;
+    let (head, mut rest) = bytes.split_at_checked(11)?;
     let mut words =
         |count: u8| -> Option<Vec<u64>> { (0..count).map(|_| number(&mut rest)).collect() };
     let given = Given {
+        mode: head[6],
         n: head[0] as usize,
         sparse: head[1] == 1,
         coefficients_mapped: head[2] == 1,
         coefficient_length: head[3] as usize,
         deviations_mapped: head[4] == 1,
         deviation_length: head[5] as usize,
-        deviations: words(head[7])?,
-        coefficients: words(head[8])?,
+        deviations: words(head[8])?,
+        coefficients: words(head[9])?,
         marks: rest.to_vec(),
     };
-    if given.marks.len() != head[9] as usize {
+    if given.marks.len() != head[10] as usize {
         return None;
     }
-    Some(answer(write_matrix(&given, head[6] as usize)))
+    Some(answer(write_matrix(
+        &given,
+        stated(line)?,
+        head[7] as usize,
+    )))
 }
 
-fn matrix_row(g: &Given, room: usize) -> String {
+/// Whether the bytes are a pack from end to end, and writing what is read of it gives them back.
+pub fn same_again(bytes: &[u8], stated: bool) -> bool {
+    if matrix::verdict(bytes, stated) != Verdict::Complete(bytes.len()) {
+        return false;
+    }
+    let values = values(bytes, stated);
+    let given = Given {
+        mode: values.control.mode,
+        n: values.n,
+        sparse: values.control.sparse,
+        coefficients_mapped: values.control.c_mapped,
+        coefficient_length: values.control.c_length,
+        deviations_mapped: values.control.s_mapped,
+        deviation_length: values.control.s_length,
+        deviations: values.deviations,
+        coefficients: values.coefficients,
+        marks: values.marks.iter().map(|&mark| mark as u8).collect(),
+    };
+    write_matrix(&given, stated, bytes.len()).as_deref() == Ok(bytes)
+}
+
+fn matrix_row(g: &Given, stated: bool, room: usize) -> String {
     let mut bytes = vec![
         g.n as u8,
         g.sparse as u8,
@@ -226,6 +268,7 @@ fn matrix_row(g: &Given, room: usize) -> String {
         g.coefficient_length as u8,
         g.deviations_mapped as u8,
         g.deviation_length as u8,
+        g.mode,
         room as u8,
         g.deviations.len() as u8,
         g.coefficients.len() as u8,
@@ -235,7 +278,7 @@ fn matrix_row(g: &Given, room: usize) -> String {
         bytes.extend(word.to_be_bytes());
     }
     bytes.extend(&g.marks);
-    format!("W {}", hex_of_bytes(&bytes))
+    format!("{}{}", letters('W', stated), hex_of_bytes(&bytes))
 }
 
 fn array_row(sizes: &[u64], element: u64, count: usize, room: usize) -> String {
@@ -246,10 +289,11 @@ fn array_row(sizes: &[u64], element: u64, count: usize, room: usize) -> String {
     format!("X {}", hex_of_bytes(&bytes))
 }
 
-/// A matrix of three variables that every writer takes.
+/// A matrix of three variables that the writer takes in Mode 2.
 fn good(c: (bool, usize), s: (bool, usize), marks: Option<[u8; 3]>) -> Given {
     let word = |i: u64, length: usize| if length == 0 { 0 } else { 0x11 + i };
     Given {
+        mode: 2,
         n: 3,
         sparse: marks.is_some(),
         coefficients_mapped: c.0,
@@ -263,7 +307,7 @@ fn good(c: (bool, usize), s: (bool, usize), marks: Option<[u8; 3]>) -> Given {
 }
 
 /// Each makes one rule broken, where the others leave that possible: the reason, and the change.
-const SPOILS: &[(u32, fn(&mut Given))] = &[
+const SPOILS: &[Spoil] = &[
     (1, |g| g.n = 0),
     (2, |g| g.n = 65),
     (6, |g| g.coefficient_length = 9),
@@ -303,32 +347,46 @@ const SPOILS: &[(u32, fn(&mut Given))] = &[
 ];
 
 /// Rooms about the count of bytes.
-fn add_rooms(rows: &mut Vec<String>, g: &Given) {
-    if let Ok(bytes) = write_matrix(g, usize::MAX) {
+fn add_rooms(rows: &mut Vec<String>, g: &Given, stated: bool) {
+    if let Ok(bytes) = write_matrix(g, stated, usize::MAX) {
         for room in [bytes.len(), bytes.len() - 1, bytes.len() + 7, 0] {
-            rows.push(matrix_row(g, room));
+            rows.push(matrix_row(g, stated, room));
         }
     }
 }
 
+/// A rule that is broken, and the change that breaks it.
+type Spoil = (u32, fn(&mut Given));
+
+/// Each of these rules broken alone, with room and without.
+fn add_alone(rows: &mut Vec<String>, g: &Given, stated: bool, spoils: &[Spoil]) {
+    for (_, spoil) in spoils {
+        let mut alone = g.clone();
+        spoil(&mut alone);
+        rows.push(matrix_row(&alone, stated, 200));
+        rows.push(matrix_row(&alone, stated, 3));
+    }
+}
+
+/// Both broken; the first change is made last.
+fn add_both(rows: &mut Vec<String>, g: &Given, stated: bool, first: &Spoil, second: &Spoil) {
+    let mut both = g.clone();
+    second.1(&mut both);
+    first.1(&mut both);
+    rows.push(matrix_row(&both, stated, 200));
+}
+
 fn matrices(rows: &mut Vec<String>) {
-    // Each rule broken alone, and every two of them, with room and without.
     let base = [
         good((true, 2), (true, 2), Some([1, 0, 1])),
         good((true, 2), (true, 2), None),
         good((false, 4), (false, 8), Some([1, 1, 1])),
     ];
     for g in &base {
-        for (i, (_, first)) in SPOILS.iter().enumerate() {
-            let mut alone = g.clone();
-            first(&mut alone);
-            rows.push(matrix_row(&alone, 200));
-            rows.push(matrix_row(&alone, 3));
-            for (_, second) in &SPOILS[i + 1..] {
-                let mut both = g.clone();
-                second(&mut both);
-                first(&mut both);
-                rows.push(matrix_row(&both, 200));
+        add_alone(rows, g, false, SPOILS);
+        for (i, first) in SPOILS.iter().enumerate() {
+            for second in &SPOILS[i + 1..] {
+                add_both(rows, g, false, first, second);
             }
         }
     }
@@ -337,9 +395,9 @@ fn matrices(rows: &mut Vec<String>) {
         for s in [(true, 0), (true, 1), (false, 4)] {
             for marks in [None, Some([0, 1, 1]), Some([1, 1, 1])] {
                 let mut g = good(c, s, marks);
-                add_rooms(rows, &g);
+                add_rooms(rows, &g, false);
                 g.coefficients[0] = u64::MAX;
-                rows.push(matrix_row(&g, 200));
+                rows.push(matrix_row(&g, false, 200));
             }
         }
     }
@@ -363,20 +421,171 @@ fn matrices(rows: &mut Vec<String>) {
                     Role::Deviation => g.deviations[1] = word,
                     Role::Coefficient => g.coefficients[2] = word,
                 }
-                rows.push(matrix_row(&g, 200));
+                rows.push(matrix_row(&g, false, 200));
             }
         }
     }
     // One variable; lists longer than needed; deviations that are ignored.
     let mut one = good((true, 0), (true, 1), None);
     one.n = 1;
-    add_rooms(rows, &one);
+    add_rooms(rows, &one, false);
     let mut longer = good((true, 2), (false, 0), Some([0, 0, 1]));
     longer.deviations.push(u64::MAX);
     longer.coefficients.push(u64::MAX);
     longer.marks.push(255);
     longer.deviations[0] = u64::MAX;
-    add_rooms(rows, &longer);
+    add_rooms(rows, &longer, false);
+}
+
+/// What Mode 1 adds to the rules that can be broken: a length of 8, and formats that are not its own.
+const MODE_1_SPOILS: &[Spoil] = &[
+    (14, |g| g.mode = 0),
+    (14, |g| g.mode = 3),
+    (6, |g| g.coefficient_length = 8),
+    (6, |g| g.deviation_length = 8),
+    (6, |g| g.deviation_length = 3),
+    (14, |g| g.coefficients_mapped = false),
+    (14, |g| g.deviations_mapped = !g.deviations_mapped),
+    (14, |g| {
+        g.coefficients_mapped = false;
+        g.deviations_mapped = !g.deviations_mapped;
+    }),
+    (14, |g| {
+        // three bytes, which IEEE does not have
+        g.coefficients_mapped = false;
+        g.coefficient_length = 3;
+    }),
+];
+
+/// A matrix of three variables that the writer takes in Mode 1 under the stated format.
+fn good_single(c_length: usize, s_length: usize, stated: bool, marks: Option<[u8; 3]>) -> Given {
+    let mut g = good((true, c_length), (stated, s_length), marks);
+    g.mode = 1;
+    g
+}
+
+/// The greatest word of a format, and others about it.
+fn edges(mapped: bool, length: usize, role: Role) -> Vec<u64> {
+    let limit = greatest_word(length, mapped, role)
+        .iter()
+        .fold(0u64, |word, &byte| word << 8 | byte as u64);
+    let sign = 1u64 << (8 * length - 1);
+    vec![
+        limit,
+        limit + 1,
+        sign,
+        sign + 1,
+        2 * sign - 1,
+        2 * sign,
+        u64::MAX,
+    ]
+}
+
+/// The order of refusals in Mode 1.
+fn single_order(rows: &mut Vec<String>, stated: bool) {
+    // Each of its own causes with each other cause, either change made first.
+    let g = good_single(2, 2, stated, Some([1, 0, 1]));
+    add_alone(rows, &g, stated, SPOILS);
+    for (i, own) in MODE_1_SPOILS.iter().enumerate() {
+        for other in SPOILS.iter().chain(&MODE_1_SPOILS[i + 1..]) {
+            add_both(rows, &g, stated, own, other);
+            add_both(rows, &g, stated, other, own);
+        }
+    }
+    // Without coefficients and without deviations a wrong format is 14 all the same.
+    for g in [
+        g,
+        good_single(2, 2, stated, None),
+        good_single(0, 4, stated, None),
+        good_single(3, 0, stated, Some([0, 1, 1])),
+        good_single(3, 0, stated, Some([0, 0, 0])),
+    ] {
+        add_alone(rows, &g, stated, MODE_1_SPOILS);
+    }
+    // Every length in every format given.
+    for length in 0..=9 {
+        for (c_length, s_length) in [(length, 2), (2, length), (length, length)] {
+            for formats in 0..4 {
+                let mut g = good_single(c_length, s_length, stated, None);
+                g.coefficients_mapped = formats % 2 == 0;
+                g.deviations_mapped = stated == (formats / 2 == 0);
+                rows.push(matrix_row(&g, stated, 200));
+            }
+        }
+    }
+    // A mode that there is not is 14 before all else.
+    let spoils: [fn(&mut Given); 3] = [|_| (), |g| g.n = 0, |g| g.coefficient_length = 9];
+    for mode in [0, 3, 255] {
+        for spoil in spoils {
+            let mut g = good_single(2, 2, stated, None);
+            g.mode = mode;
+            spoil(&mut g);
+            rows.push(matrix_row(&g, stated, 200));
+        }
+    }
+}
+
+/// What is written in Mode 1, some of it into rooms about its count; what is ignored.
+fn single_written(rows: &mut Vec<String>, stated: bool) {
+    for c_length in 0..=7 {
+        for &s_length in allowed_lengths(1, stated) {
+            for marks in [None, Some([0, 1, 1])] {
+                let mut g = good_single(c_length, s_length, stated, marks);
+                rows.push(matrix_row(&g, stated, 200));
+                if s_length == 2 {
+                    add_rooms(rows, &g, stated);
+                    g.coefficients[0] = u64::MAX;
+                    rows.push(matrix_row(&g, stated, 200));
+                }
+            }
+        }
+    }
+    for marks in [[0, 0, 0], [1, 1, 1]] {
+        add_rooms(rows, &good_single(7, 4, stated, Some(marks)), stated);
+    }
+    // One variable; lists longer than needed.
+    let mut one = good_single(0, 2, stated, None);
+    one.n = 1;
+    add_rooms(rows, &one, stated);
+    one.deviations_mapped = !stated;
+    rows.push(matrix_row(&one, stated, 200));
+    let mut longer = good_single(2, 0, stated, Some([0, 0, 1]));
+    longer.deviations.push(u64::MAX);
+    longer.coefficients.push(u64::MAX);
+    longer.marks.push(255);
+    longer.deviations[0] = u64::MAX;
+    add_rooms(rows, &longer, stated);
+}
+
+/// Words about the greatest in Mode 1.
+fn single_words(rows: &mut Vec<String>, stated: bool) {
+    for c_length in 1..=7 {
+        for word in edges(true, c_length, Role::Coefficient) {
+            let mut g = good_single(c_length, 0, stated, Some([1, 0, 1]));
+            g.coefficients[2] = word;
+            rows.push(matrix_row(&g, stated, 200));
+        }
+    }
+    for &s_length in &allowed_lengths(1, stated)[1..] {
+        for word in edges(stated, s_length, Role::Deviation) {
+            let mut g = good_single(1, s_length, stated, None);
+            g.deviations[1] = word;
+            rows.push(matrix_row(&g, stated, 200));
+        }
+    }
+}
+
+/// Mode 2 does not see the stated format.
+fn two_bytes_under_mapped(rows: &mut Vec<String>) {
+    for c in formats() {
+        for s in [(true, 1), (false, 4), (false, 8)] {
+            for marks in [None, Some([0, 1, 1])] {
+                rows.push(matrix_row(&good(c, s, marks), true, 200));
+            }
+        }
+    }
+    add_rooms(rows, &good((true, 8), (true, 8), None), true);
+    add_alone(rows, &good((false, 4), (false, 8), None), true, SPOILS);
 }
 
 fn arrays(rows: &mut Vec<String>) {
@@ -429,6 +638,12 @@ pub fn make() -> Vec<String> {
     let mut rows = Vec::new();
     matrices(&mut rows);
     arrays(&mut rows);
+    for stated in [false, true] {
+        single_order(&mut rows, stated);
+        single_written(&mut rows, stated);
+        single_words(&mut rows, stated);
+    }
+    two_bytes_under_mapped(&mut rows);
     let mut seen = std::collections::HashSet::new();
     rows.retain(|row| seen.insert(row.clone()));
     rows

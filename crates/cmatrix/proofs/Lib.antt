@@ -1,4 +1,5 @@
-pub mod SixNumbers
+pub mod Formats
+pub mod FieldNumbers
 pub mod Writing
 pub mod Listing
 pub mod Only

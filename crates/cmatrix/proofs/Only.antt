@@ -21,20 +21,20 @@ pub matrix-verdict-only : OneAnswer matrix-verdict.ps matrix-verdict.r matrix-ve
 matrix-verdict-only κs a x y s t p q = p ∙ sym q
 
 pub matrix-fields-only : (κs : Lfts 2) (a : Dens κs matrix-fields.ps) (x y : resT matrix-fields.r κs .Denot) (s t : AtExit (endedOf 2 matrix-fields.ps matrix-fields.r) κs)
-    → matrix-fields-reads.Post κs a x s → matrix-fields-reads.Post κs a y t → (x ≡ y) × (now (s .1 .0) ≡ now (t .1 .0))
+    → matrix-fields-reads.Post κs a x s → matrix-fields-reads.Post κs a y t → (x ≡ y) × (now (s .1 .1 .0) ≡ now (t .1 .1 .0))
 matrix-fields-only κs a x y s t p q = (packed-one _ _ _ (λ v m. m .said) (λ v m. m .said) x y p q, p .given .left ∙ sym (q .given .left))
 
 pub matrix-unpack-only : (κs : Lfts 4) (a : Dens κs matrix-unpack.ps) (x y : resT matrix-unpack.r κs .Denot) (s t : AtExit (endedOf 4 matrix-unpack.ps matrix-unpack.r) κs)
     → matrix-unpack-reads.Post κs a x s → matrix-unpack-reads.Post κs a y t
-    → (x ≡ y) × (now (s .1 .0) ≡ now (t .1 .0)) × (now (s .1 .1 .0) ≡ now (t .1 .1 .0)) × (now (s .1 .1 .1 .0) ≡ now (t .1 .1 .1 .0))
+    → (x ≡ y) × (now (s .1 .1 .0) ≡ now (t .1 .1 .0)) × (now (s .1 .1 .1 .0) ≡ now (t .1 .1 .1 .0)) × (now (s .1 .1 .1 .1 .0) ≡ now (t .1 .1 .1 .1 .0))
 matrix-unpack-only κs a x y s t p q =
     (packed-one _ _ _ (λ v m. m .said) (λ v m. m .said) x y p q, p .given .left-deviations ∙ sym (q .given .left-deviations), p .given .left-coefficients ∙ sym (q .given .left-coefficients), p .given .left-marks ∙ sym (q .given .left-marks))
 
 pub matrix-expand-only : (κs : Lfts 3) (a : Dens κs matrix-expand.ps) (x y : resT matrix-expand.r κs .Denot) (s t : AtExit (endedOf 3 matrix-expand.ps matrix-expand.r) κs)
-    → matrix-expand-reads.Post κs a x s → matrix-expand-reads.Post κs a y t → (x ≡ y) × (now (s .1 .0) ≡ now (t .1 .0)) × (now (s .1 .1 .0) ≡ now (t .1 .1 .0))
+    → matrix-expand-reads.Post κs a x s → matrix-expand-reads.Post κs a y t → (x ≡ y) × (now (s .1 .1 .0) ≡ now (t .1 .1 .0)) × (now (s .1 .1 .1 .0) ≡ now (t .1 .1 .1 .0))
 matrix-expand-only κs a x y s t p q =
     (packed-one _ _ _ (λ v m. m .said) (λ v m. m .said) x y p q, p .given .left-words ∙ sym (q .given .left-words), p .given .left-marks ∙ sym (q .given .left-marks))
 
 pub matrix-write-only : (κs : Lfts 5) (a : Dens κs matrix-write.ps) (x y : resT matrix-write.r κs .Denot) (s t : AtExit (endedOf 5 matrix-write.ps matrix-write.r) κs)
-    → matrix-write-reads.Post κs a x s → matrix-write-reads.Post κs a y t → (x ≡ y) × (now (s .1 .1 .1 .1 .0) ≡ now (t .1 .1 .1 .1 .0))
+    → matrix-write-reads.Post κs a x s → matrix-write-reads.Post κs a y t → (x ≡ y) × (now (s .1 .1 .1 .1 .1 .0) ≡ now (t .1 .1 .1 .1 .1 .0))
 matrix-write-only κs a x y s t p q = (packed-one _ _ _ (λ v m. m .said) (λ v m. m .said) x y p q, p .given .left ∙ sym (q .given .left))

@@ -1,4 +1,4 @@
--- For private functions alone: the verdict of what reading answers, and six numbers of every answer.
+-- For private functions alone: the verdict of what reading answers, and seven numbers of every answer.
 use Prim.Native.Nat.{ℕ}
 use mathlib.Core.List.{List}
 use lib.ListN.{replicate}
@@ -14,8 +14,8 @@ saidBy (Matrix fields length) = Complete length
 saidBy (ReadUnfinished missing) = Unfinished missing
 saidBy (ReadRefused refusal) = Refused refusal
 
--- the fields of a complete pack, or six that nobody gets
+-- the fields of a complete pack, or seven that nobody gets
 abbrev pub numbersIn : MatrixRead → List ℕ
 numbersIn (Matrix fields length) = fieldNumbers fields
-numbersIn (ReadUnfinished missing) = replicate 6 0
-numbersIn (ReadRefused refusal) = replicate 6 0
+numbersIn (ReadUnfinished missing) = replicate 7 0
+numbersIn (ReadRefused refusal) = replicate 7 0

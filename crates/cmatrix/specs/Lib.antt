@@ -1,3 +1,4 @@
+pub mod Format
 pub mod Fields
 pub mod Writing
 pub mod Inside

@@ -1,6 +1,7 @@
-// A matrix pack's fields as six numbers, N, Cs, Cf, Clen, Sf and Slen: of what reading answers, and as a writer is given them.
+// A matrix pack's fields as seven numbers, N, Cs, Cf, Clen, Sf, Slen and the mode: of what reading answers, and as a writer is given them.
 ghost use mathlib.Core.Path.{_≡_};
 ghost use Prim.Native.Nat.{_≤_};
+ghost use mathlib.Core.Bool.{cond};
 ghost use lib.ListN.{length};
 ghost use Rattle.cmatrix.specs.Inside.{saidBy, numbersIn};
 ghost use Rattle.cmatrix.specs.Writing.{fieldsGiven, fieldsFit};
@@ -20,8 +21,15 @@ pub(crate) fn said(answer: MatrixRead) -> Verdict
     }
 }
 
-// The six numbers of a complete pack; of any other six that are not asked for.
-pub(crate) fn field_numbers(answer: MatrixRead) -> [usize; 6]
+// The mode as a number.
+fn mode_of(mode1: bool) -> usize
+    ensures { λ r. ⌜ r ≡ cond mode1 1 2 ⌝ }
+{
+    if mode1 { 1 } else { 2 }
+}
+
+// The seven numbers of a complete pack; of any other seven that are not asked for.
+pub(crate) fn field_numbers(answer: MatrixRead) -> [usize; 7]
     ensures { λ r. ⌜ r ≡ numbersIn answer ⌝ }
 {
     match answer {
@@ -33,33 +41,36 @@ pub(crate) fn field_numbers(answer: MatrixRead) -> [usize; 6]
                 fields.clen,
                 bit_of(fields.sf),
                 fields.slen,
+                mode_of(fields.mode1),
             ]
         }
-        MatrixRead::Unfinished(_) => [0; 6],
-        MatrixRead::Refused(_) => [0; 6],
+        MatrixRead::Unfinished(_) => [0; 7],
+        MatrixRead::Refused(_) => [0; 7],
     }
 }
 
-// Whether there are six numbers, and Cs, Cf and Sf are each yes or no.
+// Whether there are seven numbers, Cs, Cf and Sf are each yes or no, and the mode is 1 or 2.
 pub(crate) fn fields_fit(fields: &[usize]) -> bool
     ensures { λ r. ⌜ r ≡ fieldsFit (now (fields .entry)) ⌝ }
 {
-    if fields.len() < 6 {
+    if fields.len() < 7 {
         return false;
     }
-    (fields[1] <= 1) & ((fields[2] <= 1) & (fields[4] <= 1))
+    ((fields[1] <= 1) & ((fields[2] <= 1) & (fields[4] <= 1)))
+        & ((1 <= fields[6]) & (fields[6] <= 2))
 }
 
 pub(crate) fn fields_given(fields: &[usize]) -> Fields
-    requires { ⌜ 6 ≤ length (now fields) ⌝ }
+    requires { ⌜ 7 ≤ length (now fields) ⌝ }
     ensures { λ r. ⌜ r ≡ fieldsGiven (now (fields .entry)) ⌝ }
 {
     Fields {
         n: fields[0],
+        clen: fields[3],
+        slen: fields[5],
         cs: fields[1] == 1,
         cf: fields[2] == 1,
-        clen: fields[3],
         sf: fields[4] == 1,
-        slen: fields[5],
+        mode1: fields[6] == 1,
     }
 }

@@ -5,8 +5,10 @@ ghost use Rattle.matrix.specs.Header.{bit, headerBytes};
 ghost use Rattle.counts.specs.Counts.{pairsUpTo, vectorUpTo};
 use matrix::Fields;
 
-// The size and two control bytes.
-const HEADER: usize = 3;
+// The size and one control byte, or two.
+const MODE1: usize = 2;
+
+const MODE2: usize = 3;
 
 // M, how many pairs of variables there are.
 pub fn pairs_of(n: usize) -> usize
@@ -22,7 +24,7 @@ pub fn pairs_of(n: usize) -> usize
 pub fn header_bytes(f: Fields) -> usize
     ensures { λ r. ⌜ r ≡ headerBytes f ⌝ }
 {
-    HEADER
+    if f.mode1 { MODE1 } else { MODE2 }
 }
 
 // How many bytes the bit vector takes.

@@ -7,6 +7,7 @@ use lib.Dec.{eqb, ltb}
 use Rattle.verdict.specs.declared.Reason.the-variants.{UnknownKey, LengthForm, LengthDiffers, FrameShort, FrameLong}
 use Rattle.verdict.specs.declared.Verdict.{Verdict}
 use Rattle.verdict.specs.declared.Verdict.the-variants.{Complete, Unfinished, Refused}
+use Rattle.matrix.specs.Meaning.{stating}
 use Rattle.matrix.specs.Machine.{verdictOf as matrixVerdict}
 use Rattle.array.specs.Machine.{verdictOf as arrayVerdict}
 use Rattle.outcome.specs.declared.Kind.{Kind}
@@ -52,9 +53,9 @@ outcomeOf (Complete n) count = cond (eqb n count) (Ok n) (Bad (record { reason =
 outcomeOf (Unfinished missing) count = Cut missing
 outcomeOf (Refused refusal) count = Bad refusal
 
--- the value behind a key
+-- the value behind a key; Mode 1's deviations are IEEE
 abbrev pub valueAnswer : Kind → List ℕ → FrameAnswer
-valueAnswer Matrix value = record { kind = Matrix; outcome = outcomeOf (matrixVerdict value) (length value) }
+valueAnswer Matrix value = record { kind = Matrix; outcome = outcomeOf (matrixVerdict (stating false) value) (length value) }
 valueAnswer Array value = record { kind = Array; outcome = outcomeOf (arrayVerdict value) (length value) }
 valueAnswer Unknown value = refusing Unknown UnknownKey
 

@@ -7,6 +7,7 @@ ghost use Rattle.berlength.specs.Lengths.{lengthOf};
 ghost use Rattle.word.specs.Bytes.{wordAt};
 use berlength::Length;
 use berlength::length_at;
+use matrix::Told;
 use outcome::FrameAnswer;
 use outcome::Kind;
 use outcome::Outcome;
@@ -39,6 +40,12 @@ fn outcome_of(verdict: Verdict, count: usize) -> Outcome
     }
 }
 
+// What the reader of matrices is told: Mode 1 is let in, and its deviations are IEEE.
+const TOLD: Told = Told {
+    mode1: true,
+    mapped: false,
+};
+
 // The value of a frame of this kind.
 fn from_value(kind: Kind, value: &[u8]) -> FrameAnswer
     ensures { λ r. ⌜ r ≡ valueAnswer kind (now (value .entry)) ⌝ }
@@ -46,7 +53,7 @@ fn from_value(kind: Kind, value: &[u8]) -> FrameAnswer
     match kind {
         Kind::Matrix => FrameAnswer {
             kind: Kind::Matrix,
-            outcome: outcome_of(matrixreader::verdict(value), value.len()),
+            outcome: outcome_of(matrixreader::verdict(value, TOLD), value.len()),
         },
         Kind::Array => FrameAnswer {
             kind: Kind::Array,

@@ -10,22 +10,25 @@ use borrow.Author.Tests.{eq-eqb, ne-eqb, eqb-true, eqb-false, not-false}
 use lib.Dec.{eqb}
 use Rattle.verdict.proofs.Judging.{Kept, Reaches, kept-reaches, reaches-kept}
 use Rattle.verdict.specs.Machine.{on, Accepts}
-use Rattle.verdict.proofs.Cases.{either, and-right}
+use Rattle.verdict.proofs.Cases.{by-test, either, and-right}
 use Rattle.word.specs.Digits.{digits}
 use Rattle.word.proofs.Digits.{Below, below-append, below-one, below-take}
 use Rattle.matrix.specs.declared.Fields.{Fields}
-use Rattle.matrix.specs.Meaning.{pairs, sum, Matrix, LawfulFirst, LawfulFields, Lawful}
+use Rattle.matrix.specs.declared.Told.{Told}
+use Rattle.matrix.specs.Meaning.{pairs, sum, Matrix, LawfulFirst, LawfulFields, Lawful, Mode1, Fits}
 use Rattle.matrix.specs.Spelling.{packed, spelled, bytesOf}
-use Rattle.matrix.specs.Header.{headerOf, bits, control1, control2, first, second, vectorBytes}
+use Rattle.matrix.specs.Header.{headerOf, bits, control, control1, control2, first, second, single, inMode1, vectorBytes}
 use Rattle.matrix.specs.Pack.{MatrixPack}
-use Rattle.matrix.specs.Table.{sizeRows, control1Rows, control2Rows, vectorRows}
-use Rattle.matrix.specs.Machine.{size, vector, step, enter, wordsOf, allSent, enterValues}
+use Rattle.matrix.specs.Table.{sizeRows, singleRows, control1Rows, control2Rows, vectorRows}
+use Rattle.matrix.specs.Machine.{size, vector, step, enter, wordsOf, allSent, enterValues, inSingle, inFirst}
 use Rattle.matrix.specs.Machine.{control1 as control1′, control2 as control2′}
 use Rattle.matrix.proofs.BitVector.{marks-alike, sum-same, sum-append, sum-first, bits-below, length-bits, length-packed, packed-back, packed-below, packed-rest, packed-sum, none-unused, unused-none}
 use Rattle.matrix.proofs.WordRuns.{values-accepted, accepted-values}
 use Rattle.matrix.proofs.Pairs.{pairs-some}
-use Rattle.matrix.proofs.ControlBytes.{first-rows, second-rows, second-back, size-kept, size-rows, control1-byte, control2-byte, control1-spelled, control2-spelled}
-use Rattle.matrix.proofs.Keeping.{first-kept, second-kept, two-sizes, values-by, vector-none}
+use Rattle.matrix.proofs.ControlBytes.{first-rows, second-rows, second-back, size-kept, size-rows, control1-byte, control2-byte, control1-spelled, control2-spelled, mode-told, single-back, single-mode, single-spelled, control-byte, control-mode}
+use Rattle.matrix.proofs.FieldRules.{lawful-single}
+use Rattle.matrix.proofs.Header.{header-single, header-double, control1-mode}
+use Rattle.matrix.proofs.Keeping.{first-kept, second-kept, single-kept, two-sizes, values-by, vector-none}
 
 -- ---- the bit vector
 
@@ -175,26 +178,48 @@ module _ (m : Matrix) (g : Lawful m) where
   unfolding front
   values-reached = values-by (λ move. Reaches step move (packed (vectorBytes f) (m .marks) ++ values)) f (g .fields .first) full-reached sparse-reached
 
-  -- a lawful meaning's bytes are accepted
-  meaning-accepted : Accepts step size (bytesOf m)
-  unfolding Accepts headerOf
-  meaning-accepted =
-      let l = g .fields .first in
-      let n = f .n in
-      let c = control1 f in
-      let d = control2 f in
-      let x : Kept (control2Rows (second (first n c) d) d) × Reaches step (enterValues (second (first n c) d) (vectorBytes (second (first n c) d))) (packed (vectorBytes f) (m .marks) ++ values) =
-      subst (λ (h : Fields). Kept (control2Rows h d) × Reaches step (enterValues h (vectorBytes h)) (packed (vectorBytes f) (m .marks) ++ values)) (sym (second-back f (g .fields))) (second-rows f (g .fields), values-reached) in (
-        omega (arith, l .size-most),
-        kept-reaches step (sizeRows n) (on (control1′ n)) (c ∷ d ∷ packed (vectorBytes f) (m .marks) ++ values) (size-rows n (l .size-least) (l .size-most)) (
-          control1-byte f l,
-          kept-reaches step (control1Rows (first n c) c) (on (control2′ (first n c))) (d ∷ packed (vectorBytes f) (m .marks) ++ values) (first-rows f l)
-              (control2-byte f (g .fields), kept-reaches step (control2Rows (second (first n c) d) d) (enterValues (second (first n c) d) (vectorBytes (first n c))) (packed (vectorBytes f) (m .marks) ++ values) (x .0) (x .1)),
-        ),
-      )
+  -- a lawful meaning's bytes are accepted under what fits it
+  module _ (told : Told) (fits : Fits told f) where
+    abbrev behind : List ℕ
+    behind = packed (vectorBytes f) (m .marks) ++ values
 
-pub pack-accepted : (w : List ℕ) → MatrixPack w → Accepts step size w
-pack-accepted w p = subst (Accepts step size) (p .spelled) (meaning-accepted (p .meaning) (p .lawful))
+    -- behind the size
+    size-accepted : (w : List ℕ) → Accepts step (control1′ told (f .n)) w → Accepts step (size told) (f .n ∷ w)
+    unfolding Accepts
+    size-accepted w a =
+        let l = g .fields .first in
+        (omega (arith, l .size-most), kept-reaches step (sizeRows (f .n)) (on (control1′ told (f .n))) w (size-rows (f .n) (l .size-least) (l .size-most)) a)
+
+    single-accepted : f .mode1 ≡ true → Accepts step (control1′ told (f .n)) (control f ∷ behind)
+    unfolding Accepts
+    single-accepted e =
+        let k = fits e in
+        let x : Reaches step (inSingle (single told (f .n) (control f))) behind =
+        subst (λ (h : Fields). Reaches step (inSingle h) behind) (sym (single-back told f k e)) (kept-reaches step (singleRows f) (enterValues f (vectorBytes f)) behind (lawful-single f (g .fields)) values-reached) in
+        (control-byte told f k, rw (control-mode told f k) x)
+
+    double-accepted : f .mode1 ≡ false → Accepts step (control1′ told (f .n)) (control1 f ∷ control2 f ∷ behind)
+    unfolding Accepts
+    double-accepted e =
+        let l = g .fields .first in
+        let n = f .n in
+        let c = control1 f in
+        let d = control2 f in
+        let x : Kept (control2Rows (second (first n c) d) d) × Reaches step (enterValues (second (first n c) d) (vectorBytes (second (first n c) d))) behind =
+        subst (λ (h : Fields). Kept (control2Rows h d) × Reaches step (enterValues h (vectorBytes h)) behind) (sym (second-back f (g .fields) e)) (second-rows f (g .fields), values-reached) in
+        let y : Reaches step (inFirst (first n c) c) (d ∷ behind) =
+        kept-reaches step (control1Rows (first n c) c) (on (control2′ (first n c))) (d ∷ behind) (first-rows f l e)
+        (control2-byte f (g .fields), kept-reaches step (control2Rows (second (first n c) d) d) (enterValues (second (first n c) d) (vectorBytes (first n c))) behind (x .0) (x .1)) in
+        (control1-byte f l, rw (control1-mode told f l) y)
+
+    meaning-accepted : Accepts step (size told) (bytesOf m)
+    meaning-accepted =
+        either (f .mode1)
+        (λ e. subst (λ (h : List ℕ). Accepts step (size told) (h ++ behind)) (sym (header-single f e)) (size-accepted (control f ∷ behind) (single-accepted e)))
+        (λ e. subst (λ (h : List ℕ). Accepts step (size told) (h ++ behind)) (sym (header-double f e)) (size-accepted (control1 f ∷ control2 f ∷ behind) (double-accepted e)))
+
+pub pack-accepted : (told : Told) (w : List ℕ) → MatrixPack told w → Accepts step (size told) w
+pack-accepted told w p = subst (Accepts step (size told)) (p .spelled) (meaning-accepted (p .meaning) (p .lawful) told (p .fits))
 
 -- ---- from the machine to the meaning
 
@@ -202,6 +227,7 @@ module _ (f : Fields) (g : LawfulFields f) where
   -- a lawful meaning of these fields and the bytes behind them
   record Means (w : List ℕ) : Type 0 where
     meaning : Matrix
+    same : meaning .fields ≡ f
     lawful : Lawful meaning
     spelt : bytesOf meaning ≡ headerOf f ++ w
 
@@ -211,6 +237,7 @@ module _ (f : Fields) (g : LawfulFields f) where
       let v = accepted-values f marks g rule w a in
       record {
         meaning = record { fields = f; deviations = v .deviations; marks = marks; coefficients = v .coefficients };
+        same = refl;
         lawful = record {
           fields = g;
           values = record {
@@ -262,26 +289,43 @@ module _ (f : Fields) (g : LawfulFields f) where
   values-means : (w : List ℕ) → Reaches step (enterValues f (vectorBytes f)) w → Means w
   values-means w = values-by (λ move. Reaches step move w → Means w) f (g .first) (λ e. full-means e w) (λ e. sparse-means e w)
 
-header-pack : (n c d : ℕ) (w : List ℕ) → c < 256 → d < 256 → Kept (sizeRows n) → Kept (control1Rows (first n c) c) → Kept (control2Rows (second (first n c) d) d)
-    → Reaches step (enterValues (second (first n c) d) (vectorBytes (first n c))) w → MatrixPack (n ∷ c ∷ d ∷ w)
-unfolding headerOf
-header-pack n c d w hc hd kn kc kd a =
-    let s = size-kept n kn in
-    let m = values-means (second (first n c) d) (second-kept (first n c) d (first-kept n c (s .0) (s .1) kc) kd) w a in
-    record {
-      meaning = m .meaning;
-      lawful = m .lawful;
-      spelled = m .spelt ∙ ap₂ (λ (x y : ℕ). n ∷ x ∷ y ∷ w) (control1-spelled n c hc kc) (control2-spelled (first n c) d hd kd);
-    }
+module _ (told : Told) (n c : ℕ) (kn : Kept (sizeRows n)) (hc : c < 256) where
+  -- Mode 1's control byte and the values behind it
+  single-pack : (w : List ℕ) → inMode1 told c ≡ true → Reaches step (inSingle (single told n c)) w → MatrixPack told (n ∷ c ∷ w)
+  single-pack w t a =
+      let f = single told n c in
+      let x = reaches-kept step (singleRows f) (enterValues f (vectorBytes f)) w a in
+      let m = values-means f (single-kept told n c (size-kept n kn) (x .0)) w (x .1) in
+      let one = mode-told told c t in
+      record {
+        meaning = m .meaning;
+        lawful = m .lawful;
+        fits = λ e. subst (Mode1 told) (sym (m .same)) (single-mode told n c (one .0));
+        spelled = m .spelt ∙ ap (λ (h : List ℕ). h ++ w) (header-single f refl) ∙ ap (λ (x : ℕ). n ∷ x ∷ w) (single-spelled told n c (one .1));
+      }
 
-pub accepted-pack : (w : List ℕ) → Accepts step size w → MatrixPack w
+  -- Mode 2's control bytes and the values behind them
+  double-pack : (w : List ℕ) → Reaches step (inFirst (first n c) c) w → MatrixPack told (n ∷ c ∷ w)
+  unfolding Accepts
+  double-pack [] a = absurd (reaches-kept step (control1Rows (first n c) c) (on (control2′ (first n c))) [] a .1)
+  double-pack (d ∷ w) a =
+      let s = size-kept n kn in
+      let y = reaches-kept step (control1Rows (first n c) c) (on (control2′ (first n c))) (d ∷ w) a in
+      let z = reaches-kept step (control2Rows (second (first n c) d) d) (enterValues (second (first n c) d) (vectorBytes (first n c))) w (y .1 .1) in
+      let f = second (first n c) d in
+      let m = values-means f (second-kept (first n c) d (first-kept n c (s .0) (s .1) (y .0)) (z .0)) w (z .1) in
+      record {
+        meaning = m .meaning;
+        lawful = m .lawful;
+        fits = λ e. absurd (false≢true (sym (ap (λ (h : Fields). h .mode1) (m .same)) ∙ e));
+        spelled = m .spelt ∙ ap (λ (h : List ℕ). h ++ w) (header-double f refl) ∙ ap₂ (λ (x y : ℕ). n ∷ x ∷ y ∷ w) (control1-spelled n c hc (y .0)) (control2-spelled (first n c) d (y .1 .0) (z .0));
+      }
+
+pub accepted-pack : (told : Told) (w : List ℕ) → Accepts step (size told) w → MatrixPack told w
 unfolding Accepts
-accepted-pack [] a = absurd a
-accepted-pack (n ∷ []) a = absurd (reaches-kept step (sizeRows n) (on (control1′ n)) [] (a .1) .1)
-accepted-pack (n ∷ c ∷ []) a =
-    let x = reaches-kept step (sizeRows n) (on (control1′ n)) (c ∷ []) (a .1) in absurd (reaches-kept step (control1Rows (first n c) c) (on (control2′ (first n c))) [] (x .1 .1) .1)
-accepted-pack (n ∷ c ∷ d ∷ w) a =
-    let x = reaches-kept step (sizeRows n) (on (control1′ n)) (c ∷ d ∷ w) (a .1) in
-    let y = reaches-kept step (control1Rows (first n c) c) (on (control2′ (first n c))) (d ∷ w) (x .1 .1) in
-    let z = reaches-kept step (control2Rows (second (first n c) d) d) (enterValues (second (first n c) d) (vectorBytes (first n c))) w (y .1 .1) in
-    header-pack n c d w (x .1 .0) (y .1 .0) (x .0) (y .0) (z .0) (z .1)
+accepted-pack told [] a = absurd a
+accepted-pack told (n ∷ []) a = absurd (reaches-kept step (sizeRows n) (on (control1′ told n)) [] (a .1) .1)
+accepted-pack told (n ∷ c ∷ w) a =
+    let x = reaches-kept step (sizeRows n) (on (control1′ told n)) (c ∷ w) (a .1) in
+    by-test (λ move. Reaches step move w → MatrixPack told (n ∷ c ∷ w)) (inMode1 told c) (inSingle (single told n c)) (inFirst (first n c) c)
+    (λ e y. single-pack told n c (x .0) (x .1 .0) w e y) (λ e y. double-pack told n c (x .0) (x .1 .0) w y) (x .1 .1)

@@ -1,7 +1,7 @@
 -- The control bytes and the fields: each spells the other where its rules are kept. Assumes nothing.
 use Prim.Native.Nat.{ℕ, zero, suc, _+_, _*_, _/_, _%_, _≤_, _<_}
 use mathlib.Core.Path.{_≡_, refl, sym, ap, _∙_, subst}
-use mathlib.Core.Bool.{Bool, true, false}
+use mathlib.Core.Bool.{Bool, true, false, and-false, and-eq-true-iff}
 use native.Mathlib.Nat.{div-div-eq-div-mul}
 use native.Mathlib.Omega.{arith}
 use borrow.Author.Tests.{eqb-true, eqb-false, eq-eqb, ne-eqb, le-ltb, ltb-false, not-false}
@@ -9,8 +9,9 @@ use lib.Dec.{eqb}
 use Rattle.verdict.proofs.Judging.{Kept}
 use Rattle.rule.proofs.Certain.{deviation-sound, coefficient-sound, deviation-length, coefficient-length}
 use Rattle.matrix.specs.declared.Fields.{Fields}
-use Rattle.matrix.specs.Meaning.{LawfulFirst, LawfulFields}
-use Rattle.matrix.specs.Header.{bit, first, second, control1, control2}
+use Rattle.matrix.specs.declared.Told.{Told}
+use Rattle.matrix.specs.Meaning.{LawfulFirst, LawfulFields, Mode1}
+use Rattle.matrix.specs.Header.{bit, first, second, single, inMode1, control, control1, control2}
 use Rattle.matrix.specs.Table.{sizeRows, control1Rows, control2Rows}
 use Rattle.matrix.proofs.FieldRules.{lawful-coefficients, lawful-deviations}
 
@@ -69,23 +70,28 @@ module _ (f : Fields) (g : LawfulFirst f) where
   pub control1-byte : control1 f < 256
   control1-byte = omega (arith, clen-small, bit-small (f .cf), bit-small (f .cs))
 
-  pub first-back : first (f .n) (control1 f) ≡ second f 0
-  first-back = λ i. record {
+  pub first-back : f .mode1 ≡ false → first (f .n) (control1 f) ≡ second f 0
+  first-back two = λ i. record {
     n = f .n;
     cs = flag32 (f .cs) (control1 f) 2 (bit (f .cf) * 16 + f .clen) (omega (arith, clen-small, bit-small (f .cf))) (omega arith) i;
     cf = flag16 (f .cf) (control1 f) (4 + bit (f .cs)) (f .clen) (omega (arith, clen-small)) (omega arith) i;
     clen = mod16 i;
     sf = false;
     slen = 0;
+    mode1 = sym two i;
   }
     where
       mod16 : control1 f % 16 ≡ f .clen
       mod16 = omega (arith, clen-small)
 
-  pub first-rows : Kept (control1Rows (first (f .n) (control1 f)) (control1 f))
-  first-rows =
-      subst (λ (h : Fields). Kept (control1Rows h (control1 f))) (sym first-back)
-      (ne-eqb (control1 f / 128) 0 (λ e. omega arith), (ne-eqb (control1 f / 64 % 2) 1 (λ e. omega (arith, upper)), lawful-coefficients f g))
+  -- its top bit is 1
+  pub control1-top : control1 f / 128 ≡ 1
+  control1-top = omega (arith, clen-small, bit-small (f .cf), bit-small (f .cs))
+
+  pub first-rows : f .mode1 ≡ false → Kept (control1Rows (first (f .n) (control1 f)) (control1 f))
+  first-rows two =
+      subst (λ (h : Fields). Kept (control1Rows h (control1 f))) (sym (first-back two))
+      (ne-eqb (control1 f / 128) 0 (λ e. omega (arith, control1-top)), (ne-eqb (control1 f / 64 % 2) 1 (λ e. omega (arith, upper)), lawful-coefficients f g))
     where
       upper : control1 f / 64 ≡ 2
       upper = omega (arith, clen-small, bit-small (f .cf), bit-small (f .cs))
@@ -97,9 +103,9 @@ module _ (f : Fields) (g : LawfulFields f) where
   pub control2-byte : control2 f < 256
   control2-byte = omega (arith, slen-small, bit-small (f .sf))
 
-  pub second-back : second (first (f .n) (control1 f)) (control2 f) ≡ f
-  second-back =
-      ap (λ (h : Fields). second h (control2 f)) (first-back f (g .first))
+  pub second-back : f .mode1 ≡ false → second (first (f .n) (control1 f)) (control2 f) ≡ f
+  second-back two =
+      ap (λ (h : Fields). second h (control2 f)) (first-back f (g .first) two)
       ∙ (λ i. record {
         n = f .n;
         cs = f .cs;
@@ -107,6 +113,7 @@ module _ (f : Fields) (g : LawfulFields f) where
         clen = f .clen;
         sf = flag16 (f .sf) (control2 f) 0 (f .slen) (omega (arith, slen-small)) (omega arith) i;
         slen = mod16 i;
+        mode1 = f .mode1;
       })
     where
       mod16 : control2 f % 16 ≡ f .slen
@@ -117,3 +124,65 @@ module _ (f : Fields) (g : LawfulFields f) where
       let upper : control2 f / 32 ≡ 0 = omega (arith, slen-small, bit-small (f .sf)) in
       let reserved : control2 f / 32 % 4 ≡ 0 = omega arith in
       (ne-eqb (control2 f / 128) 1 (λ e. omega (arith, slen-small, bit-small (f .sf))), (rw (eq-eqb (control2 f / 32 % 4) 0 reserved), lawful-deviations f g))
+
+-- ---- Mode 1
+
+-- a byte of either mode, by its top bit
+pub mode-one : (told : Told) (c : ℕ) → told .mode1 ≡ true → c / 128 ≡ 0 → inMode1 told c ≡ true
+mode-one told c e top = rw (e, eq-eqb (c / 128) 0 top)
+
+pub mode-two : (told : Told) (c : ℕ) → c / 128 ≡ 1 → inMode1 told c ≡ false
+mode-two told c top = rw (ne-eqb (c / 128) 0 (λ z. omega arith)) (and-false (told .mode1))
+
+-- no byte is Mode 1's where that is not let in
+pub mode-shut : (told : Told) (c : ℕ) → told .mode1 ≡ false → inMode1 told c ≡ false
+mode-shut told c e = rw e
+
+-- and what Mode 1's byte tells
+pub mode-told : (told : Told) (c : ℕ) → inMode1 told c ≡ true → (told .mode1 ≡ true) × (c / 128 ≡ 0)
+mode-told told c e = let both = and-eq-true-iff (told .mode1) (eqb (c / 128) 0) .0 e in (both .0, eqb-true (c / 128) 0 (both .1))
+
+flag8 : (a : Bool) (c h x : ℕ) → x < 8 → c ≡ h * 16 + (bit a * 8 + x) → eqb (c / 8 % 2) 1 ≡ a
+flag8 true c h x l e = let q : c / 8 ≡ h * 2 + 1 = omega arith in eq-eqb (c / 8 % 2) 1 (omega arith)
+flag8 false c h x l e = let q : c / 8 ≡ h * 2 = omega arith in ne-eqb (c / 8 % 2) 1 (λ z. omega arith)
+
+pub single-spelled : (told : Told) (n c : ℕ) → c / 128 ≡ 0 → control (single told n c) ≡ c
+single-spelled told n c top =
+    let a : c / 16 % 8 ≡ c / 16 = omega (arith, div-div-eq-div-mul c 16 8) in
+    let b : c / 8 ≡ c / 16 * 2 + c / 8 % 2 = omega (arith, div-div-eq-div-mul c 8 2) in
+    omega (arith, bit-of (c / 8 % 2) (omega arith))
+
+module _ (told : Told) (f : Fields) (m : Mode1 told f) where
+  control-small : control f < 128
+  control-small = omega (arith, m .coefficient-room, m .deviation-room, bit-small (f .cs))
+
+  pub control-byte : control f < 256
+  control-byte = omega (arith, control-small)
+
+  pub control-mode : inMode1 told (control f) ≡ true
+  control-mode = mode-one told (control f) (m .let-in) (omega (arith, control-small))
+
+  pub single-back : f .mode1 ≡ true → single told (f .n) (control f) ≡ f
+  single-back one = λ i. record {
+    n = f .n;
+    cs = flag8 (f .cs) (control f) (f .slen) (f .clen) (omega (arith, m .coefficient-room)) (omega arith) i;
+    cf = sym (m .coefficient-format) i;
+    clen = mod8 i;
+    sf = sym (m .deviation-format) i;
+    slen = upper i;
+    mode1 = sym one i;
+  }
+    where
+      mod8 : control f % 8 ≡ f .clen
+      mod8 = omega (arith, m .coefficient-room)
+
+      upper : control f / 16 % 8 ≡ f .slen
+      upper = let q : control f / 16 ≡ f .slen = omega (arith, m .coefficient-room, bit-small (f .cs)) in omega (arith, m .deviation-room)
+
+-- what Mode 1's control byte says is in its formats and lengths
+pub single-mode : (told : Told) (n c : ℕ) → told .mode1 ≡ true → Mode1 told (single told n c)
+single-mode told n c e = record { let-in = e; coefficient-format = refl; deviation-format = refl; coefficient-room = omega arith; deviation-room = omega arith }
+
+-- lawful lengths leave it a byte, in whatever formats
+pub single-byte : (f : Fields) → LawfulFields f → control f < 256
+single-byte f g = omega (arith, clen-small f (g .first), slen-small f g, bit-small (f .cs))

@@ -19,8 +19,11 @@ deviations-most f g = mul-le-mul {n₁ = f .n} {m₁ = f .slen} {n₂ = 64} {m�
 pub coefficients-most : (f : Fields) (sent : ℕ) → LawfulFirst f → sent ≤ 2016 → sent * f .clen ≤ 16128
 coefficients-most f sent g h = mul-le-mul {n₁ = sent} {m₁ = f .clen} {n₂ = 2016} {m₂ = 8} h (clen-small f g)
 
-pub least-for-most : (n : ℕ) → n ≤ 64 → leastFor n ≤ 64
-least-for-most n h = by-test (λ (k : ℕ). k ≤ 64) (eqb n 1) 1 (min n (min (pairs n) ((pairs n + 7) / 8 + 1))) (λ e. omega arith) (λ e. omega arith)
+pub each-most : (each n : ℕ) → each ≤ 2 → n ≤ 64 → n * each ≤ 128
+each-most each n e h = mul-le-mul {n₁ = n} {m₁ = each} {n₂ = 64} {m₂ = 2} h e
+
+pub least-for-most : (each n : ℕ) → each ≤ 2 → n ≤ 64 → leastFor each n ≤ 128
+least-for-most each n e h = by-test (λ (k : ℕ). k ≤ 128) (eqb n 1) each (min (n * each) (min (pairs n) ((pairs n + 7) / 8 + 1))) (λ t. omega arith) (λ t. omega (arith, each-most each n e h))
 
 pub least-values-most : (f : Fields) → LawfulFirst f → leastValues f ≤ 16128
 least-values-most f g = go (f .cs)

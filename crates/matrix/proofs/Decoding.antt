@@ -14,7 +14,8 @@ use Rattle.rule.specs.Rules.{deviationRule, coefficientRule}
 use Rattle.word.proofs.Digits.{length-digits, value-digits}
 use Rattle.rule.proofs.Certain.{keeps-fits, deviation-sound, coefficient-sound, deviation-length, coefficient-length}
 use Rattle.matrix.specs.declared.Fields.{Fields}
-use Rattle.matrix.specs.Meaning.{sum, nought, Matrix, Lawful}
+use Rattle.matrix.specs.declared.Told.{Told}
+use Rattle.matrix.specs.Meaning.{sum, nought, Matrix, Lawful, Fits}
 use Rattle.matrix.specs.Spelling.{meaningBehind, meaningIn, packed, spelled, bytesOf, read, meaningOf}
 use Rattle.matrix.specs.Header.{headerOf, headerBytes, bits, vectorBytes, marksOf}
 use Rattle.matrix.specs.Pack.{MatrixPack}
@@ -107,22 +108,26 @@ module _ (m : Matrix) (g : Lawful m) where
       rw (take-at vector behind (vectorBytes f) count, drop-at vector behind (vectorBytes f) count, ends, vector-back, deviations-back (coefficientBytes ++ t), coefficients-back t)
 
 -- a lawful meaning is read back from its bytes, whatever is behind them
-pub meaning-back : (m : Matrix) → Lawful m → (t : List ℕ) → meaningOf (bytesOf m ++ t) ≡ m
-meaning-back m g t =
+pub meaning-back : (told : Told) (m : Matrix) → Lawful m → Fits told (m .fields) → (t : List ℕ) → meaningOf told (bytesOf m ++ t) ≡ m
+meaning-back told m g fits t =
     let f = m .fields in
     let behind = packed (vectorBytes f) (m .marks) ++ (deviationBytes m g ++ coefficientBytes m g) in
-    ap meaningOf (append-assoc (headerOf f) behind t) ∙ ap (λ (h : Fields). meaningIn h (headerOf f ++ (behind ++ t))) (header-back f (g .fields) (behind ++ t))
+    ap (meaningOf told) (append-assoc (headerOf f) behind t) ∙ ap (λ (h : Fields). meaningIn h (headerOf f ++ (behind ++ t))) (header-back told f (g .fields) fits (behind ++ t))
     ∙ ap (meaningBehind f) (header-behind f (behind ++ t)) ∙ rw (append-assoc, append-assoc) (values-back m g t)
 
 -- lawful meanings with the same bytes are the same
-pub meaning-one : (m k : Matrix) → Lawful m → Lawful k → bytesOf m ≡ bytesOf k → m ≡ k
-meaning-one m k g h e = sym (meaning-back m g []) ∙ ap (λ (w : List ℕ). meaningOf (w ++ [])) e ∙ meaning-back k h []
+pub meaning-one : (told : Told) (m k : Matrix) → Lawful m → Fits told (m .fields) → Lawful k → Fits told (k .fields) → bytesOf m ≡ bytesOf k → m ≡ k
+meaning-one told m k g a h b e = sym (meaning-back told m g a []) ∙ ap (λ (w : List ℕ). meaningOf told (w ++ [])) e ∙ meaning-back told k h b []
 
--- the meaning that a pack has, whatever is behind it, is lawful and spells it
-pub pack-meaning : (w t : List ℕ) → MatrixPack w → Lawful (meaningOf (w ++ t)) × (bytesOf (meaningOf (w ++ t)) ≡ w)
-pack-meaning w t p =
-    let e : meaningOf (w ++ t) ≡ p .meaning = ap (λ (b : List ℕ). meaningOf (b ++ t)) (sym (p .spelled)) ∙ meaning-back (p .meaning) (p .lawful) t in
-    (subst Lawful (sym e) (p .lawful), ap bytesOf e ∙ p .spelled)
+-- what a pack's meaning keeps: it is lawful, in a mode that is let in, and spells the pack
+abbrev pub Meant : Told → List ℕ → Matrix → Type 0
+Meant told w m = Lawful m × Fits told (m .fields) × (bytesOf m ≡ w)
+
+-- the meaning that a pack has, whatever is behind it
+pub pack-meaning : (told : Told) (w t : List ℕ) → MatrixPack told w → Meant told w (meaningOf told (w ++ t))
+pack-meaning told w t p =
+    let e : meaningOf told (w ++ t) ≡ p .meaning = ap (λ (b : List ℕ). meaningOf told (b ++ t)) (sym (p .spelled)) ∙ meaning-back told (p .meaning) (p .lawful) (p .fits) t in
+    subst (Meant told w) (sym e) (p .lawful, p .fits, p .spelled)
 
 -- how many bytes a meaning takes
 pub pack-length : (m : Matrix) → length (bytesOf m) ≡ headerBytes (m .fields) + (vectorBytes (m .fields) + (m .fields .n * m .fields .slen + sum (m .marks) * m .fields .clen))

@@ -5,6 +5,7 @@ use mathlib.Core.Bool.{Bool, true, false}
 use mathlib.Core.List.{List, [], _∷_}
 use native.Mathlib.Omega.{arith}
 use lib.ListN.{length, getD}
+use Rattle.matrix.specs.declared.Told.{Told}
 use Rattle.matrix.specs.Meaning.{pairs, sum}
 use Rattle.matrix.specs.Spelling.{bytesOf}
 use Rattle.matrix.specs.Header.{bit}
@@ -25,8 +26,8 @@ vector-most true count h = omega arith
 vector-most false count h = omega arith
 
 -- the size and control bytes, a whole bit vector, 64 deviations and 2,016 coefficients of 8 bytes
-pub matrix-short : (w : List ℕ) → MatrixPack w → length w ≤ 16895
-matrix-short w p =
+pub matrix-short : (told : Told) (w : List ℕ) → MatrixPack told w → length w ≤ 16895
+matrix-short told w p =
     let m = p .meaning in
     let f = m .fields in
     let g = p .lawful in

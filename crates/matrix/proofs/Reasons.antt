@@ -18,18 +18,19 @@ use Rattle.verdict.specs.Machine.{Move, on, done, Blames}
 use Rattle.rule.specs.Rules.{cleared}
 use Rattle.word.specs.Digits.{digits}
 use Rattle.matrix.specs.declared.Fields.{Fields}
+use Rattle.matrix.specs.declared.Told.{Told}
 use Rattle.matrix.specs.Meaning.{pairs, sum, LawfulFirst, LawfulFields}
-use Rattle.matrix.specs.Header.{bits, first, second, vectorBytes}
-use Rattle.matrix.specs.Table.{sizeRows, control1Rows, control2Rows, vectorRows, wordRows, valueRows, rowsOf, Why}
+use Rattle.matrix.specs.Header.{bits, first, second, single, inMode1, vectorBytes}
+use Rattle.matrix.specs.Table.{sizeRows, singleRows, control1Rows, control2Rows, vectorRows, wordRows, valueRows, singleRowsOf, doubleRowsOf, rowsOf, Why}
 use Rattle.matrix.proofs.Accepting.{sum-more, sum-last, vector-zeros}
 use Rattle.matrix.proofs.BitVector.{sum-first}
 use Rattle.matrix.proofs.ControlBytes.{size-kept}
-use Rattle.matrix.proofs.Keeping.{first-kept, second-kept, values-by, vector-none, vector-some}
-use Rattle.matrix.specs.Machine.{State, size, control1, control2, vector, word, Run, enter, enterRun, enterWord, inWord, restOf, enterValues, wordsOf, allSent, step}
+use Rattle.matrix.proofs.Keeping.{first-kept, second-kept, single-kept, values-by, vector-none, vector-some}
+use Rattle.matrix.specs.Machine.{State, size, control1, control2, vector, word, Run, enter, enterRun, enterWord, inWord, restOf, enterValues, wordsOf, allSent, inSingle, inFirst, step}
 
 -- the table gives at most one reason
-pub one-reason : OneReason Why
-one-reason w = one-blamed (rowsOf w)
+pub one-reason : (told : Told) → OneReason (Why told)
+one-reason told w = one-blamed (rowsOf told w)
 
 -- ---- in words
 
@@ -121,24 +122,41 @@ values-blame f g w r =
 not-nil : {b : ℕ} {w : List ℕ} → b ∷ w ≡ [] → ⊥
 not-nil e = let n : _≡_ {A = ℕ} (suc _) 0 = ap length e in omega arith
 
-values-why : (n c d : ℕ) → LawfulFields (second (first n c) d) → (w : List ℕ) (r : Reason) → Leads step w r (enterValues (second (first n c) d) (vectorBytes (first n c))) → Why (n ∷ c ∷ d ∷ w) r
-values-why n c d g [] r x = absurd (let s = values-blame (second (first n c) d) g [] r x in omega (arith, s .0))
-values-why n c d g (b ∷ w) r x = values-blame (second (first n c) d) g (b ∷ w) r x .1
+-- behind the header some byte is refused, by its rules
+values-why : (f : Fields) → LawfulFields f → (P : List ℕ → Type 0) (w : List ℕ) (r : Reason) → ((b : ℕ) (v : List ℕ) → Blamed (valueRows f (b ∷ v)) r → P (b ∷ v)) → Leads step w r (enterValues f (vectorBytes f)) → P w
+values-why f g P [] r h x = absurd (let s = values-blame f g [] r x in omega (arith, s .0))
+values-why f g P (b ∷ w) r h x = h b w (values-blame f g (b ∷ w) r x .1)
 
-pub blames-why : (w : List ℕ) (r : Reason) → Blames step size w r → Why w r
+module _ (told : Told) (n c : ℕ) (r : Reason) (s : (1 ≤ n) × (n ≤ 64)) where
+  single-why : (w : List ℕ) → Leads step w r (inSingle (single told n c)) → Blamed (singleRowsOf (single told n c) w) r
+  single-why w x =
+      let f = single told n c in
+      ⊎-elim (λ y. subst (λ (l : List ℕ). Blamed (singleRowsOf f l) r) (sym (y .0)) (y .1))
+      (λ y. values-why f (single-kept told n c s (y .0)) (λ (l : List ℕ). Blamed (singleRowsOf f l) r) w r (λ b v z. z) (y .1))
+      (judged-leads step (singleRows f) (enterValues f (vectorBytes f)) w r x)
+
+  second-why : Kept (control1Rows (first n c) c) → (d : ℕ) (w : List ℕ) → Leads step w r (step (control2 (first n c)) d) → Blamed (doubleRowsOf (first n c) c (d ∷ w)) r
+  second-why k d w x =
+      let f = second (first n c) d in
+      ⊎-elim (λ y. subst (λ (l : List ℕ). Blamed (doubleRowsOf (first n c) c (d ∷ l)) r) (sym (y .0)) (y .1))
+      (λ y. values-why f (second-kept (first n c) d (first-kept n c (s .0) (s .1) k) (y .0)) (λ (l : List ℕ). Blamed (doubleRowsOf (first n c) c (d ∷ l)) r) w r (λ b v z. z) (y .1))
+      (judged-leads step (control2Rows f d) (enterValues f (vectorBytes (first n c))) w r x)
+
+  double-why : (w : List ℕ) → Leads step w r (inFirst (first n c) c) → Blamed (doubleRowsOf (first n c) c w) r
+  unfolding Blames
+  double-why [] x = ⊎-elim (λ z. z .1) (λ z. absurd (z .1)) (judged-leads step (control1Rows (first n c) c) (on (control2 (first n c))) [] r x)
+  double-why (d ∷ w) x = ⊎-elim (λ z. absurd (not-nil (z .0))) (λ z. second-why (z .0) d w (z .1)) (judged-leads step (control1Rows (first n c) c) (on (control2 (first n c))) (d ∷ w) r x)
+
+  control-why : (w : List ℕ) → Leads step w r (step (control1 told n) c) → Why told (n ∷ c ∷ w) r
+  control-why w = go (inMode1 told c)
+    where
+      go : (t : Bool) → Leads step w r (cond t (inSingle (single told n c)) (inFirst (first n c) c)) → Blamed (cond t (singleRowsOf (single told n c) w) (doubleRowsOf (first n c) c w)) r
+      go true x = single-why w x
+      go false x = double-why w x
+
+pub blames-why : (told : Told) (w : List ℕ) (r : Reason) → Blames step (size told) w r → Why told w r
 unfolding Blames
-blames-why [] r x = absurd x
-blames-why (n ∷ []) r x = ⊎-elim (λ y. y .1) (λ y. absurd (y .1)) (judged-leads step (sizeRows n) (on (control1 n)) [] r x)
-blames-why (n ∷ c ∷ []) r x =
-    ⊎-elim (λ y. absurd (not-nil (y .0))) (λ y. ⊎-elim (λ z. z .1) (λ z. absurd (z .1)) (judged-leads step (control1Rows (first n c) c) (on (control2 (first n c))) [] r (y .1)))
-    (judged-leads step (sizeRows n) (on (control1 n)) (c ∷ []) r x)
-blames-why (n ∷ c ∷ d ∷ w) r x =
-    ⊎-elim (λ y. absurd (not-nil (y .0)))
-    (λ y. ⊎-elim (λ z. absurd (not-nil (z .0))) (λ z. second-why (size-kept n (y .0)) (z .0) w (z .1)) (judged-leads step (control1Rows (first n c) c) (on (control2 (first n c))) (d ∷ w) r (y .1)))
-    (judged-leads step (sizeRows n) (on (control1 n)) (c ∷ d ∷ w) r x)
-  where
-    second-why : (1 ≤ n) × (n ≤ 64) → Kept (control1Rows (first n c) c) → (w : List ℕ) → Leads step w r (step (control2 (first n c)) d) → Why (n ∷ c ∷ d ∷ w) r
-    second-why s k w x =
-        ⊎-elim (λ y. subst (λ (l : List ℕ). Why (n ∷ c ∷ d ∷ l) r) (sym (y .0)) (y .1))
-        (λ y. values-why n c d (second-kept (first n c) d (first-kept n c (s .0) (s .1) k) (y .0)) w r (y .1))
-        (judged-leads step (control2Rows (second (first n c) d) d) (enterValues (second (first n c) d) (vectorBytes (first n c))) w r x)
+blames-why told [] r x = absurd x
+blames-why told (n ∷ []) r x = ⊎-elim (λ y. y .1) (λ y. absurd (y .1)) (judged-leads step (sizeRows n) (on (control1 told n)) [] r x)
+blames-why told (n ∷ c ∷ w) r x =
+    ⊎-elim (λ y. absurd (not-nil (y .0))) (λ y. control-why told n c r (size-kept n (y .0)) w (y .1)) (judged-leads step (sizeRows n) (on (control1 told n)) (c ∷ w) r x)

@@ -1,12 +1,13 @@
 -- What a matrix pack means, and the rules that a lawful meaning keeps.
 use Prim.Native.Nat.{ℕ, _+_, _-_, _*_, _/_, _≤_, _<_, min}
 use mathlib.Core.Path.{_≡_}
-use mathlib.Core.Bool.{true, false, cond}
+use mathlib.Core.Bool.{Bool, true, false, cond}
 use mathlib.Core.List.{List, [], _∷_}
 use lib.ListN.{length, getD}
 use Rattle.rule.specs.Rules.{Keeps, allowed, deviationRule, coefficientRule}
 use Rattle.rule.specs.Scaled.{noughtOf}
 use Rattle.matrix.specs.declared.Fields.{Fields}
+use Rattle.matrix.specs.declared.Told.{Told}
 
 -- M, how many pairs of variables there are
 abbrev pub pairs : ℕ → ℕ
@@ -28,7 +29,7 @@ sum (x ∷ xs) = x + sum xs
 abbrev pub nought : Fields → ℕ
 nought f = cond (f .cf) (noughtOf (f .clen)) 0
 
--- the rules of the size and of control byte 1
+-- the rules of the size, and of what Mode 2 says in control byte 1
 pub record LawfulFirst (f : Fields) : Type 0 where
   pub size-least : 1 ≤ f .n
   pub size-most : f .n ≤ 64
@@ -36,11 +37,27 @@ pub record LawfulFirst (f : Fields) : Type 0 where
   pub sparse : f .cs ≡ true → 0 < f .clen
   pub size-one : f .n ≡ 1 → f .clen ≡ 0
 
--- and of control byte 2
+-- and of what it says in control byte 2; Mode 1 says all in one byte
 pub record LawfulFields (f : Fields) : Type 0 where
   pub first : LawfulFirst f
   pub deviation-length : allowed (f .sf) (f .slen) ≡ true
   pub some-length : 0 < f .slen + f .clen
+
+-- what Mode 1 asks of the fields: it is let in, coefficients are mapped, deviations as told, and each length has three bits
+pub record Mode1 (told : Told) (f : Fields) : Type 0 where
+  pub let-in : told .mode1 ≡ true
+  pub coefficient-format : f .cf ≡ true
+  pub deviation-format : f .sf ≡ told .mapped
+  pub coefficient-room : f .clen ≤ 7
+  pub deviation-room : f .slen ≤ 7
+
+-- what is told where a deviation format is stated: Mode 1 is let in
+abbrev pub stating : Bool → Told
+stating mapped = record { mode1 = true; mapped = mapped }
+
+-- fields of either mode under what was told; Mode 2 does not see it
+abbrev pub Fits : Told → Fields → Type 0
+Fits told f = f .mode1 ≡ true → Mode1 told f
 
 -- the rules of the values, in the format and length of the fields
 pub record LawfulValues (m : Matrix) : Type 0 where

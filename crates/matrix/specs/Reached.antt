@@ -37,8 +37,8 @@ pub record GoodWord (more sign top : ℕ) (run : Run) (runs : List Run) : Type 0
 
 -- the states that a machine can be in
 abbrev pub Good : State → Type 0
-Good size = Unit {0}
-Good (control1 n) = (1 ≤ n) × (n ≤ 64)
+Good (size told) = Unit {0}
+Good (control1 told n) = (1 ≤ n) × (n ≤ 64)
 Good (control2 f) = LawfulFirst f
 Good (vector f more sent) = GoodVector f more sent
 Good (word more sign top run runs) = GoodWord more sign top run runs

@@ -6,6 +6,7 @@ use lib.ListN.{take, drop, replicate, getD}
 use lib.Dec.{eqb}
 use Rattle.word.specs.Digits.{digits, valueOf}
 use Rattle.matrix.specs.declared.Fields.{Fields}
+use Rattle.matrix.specs.declared.Told.{Told}
 use Rattle.matrix.specs.Meaning.{Matrix, nought}
 use Rattle.matrix.specs.Header.{headerOf, headerBytes, fieldsOf, vectorBytes, marksOf}
 
@@ -47,6 +48,6 @@ meaningBehind f w =
 abbrev pub meaningIn : Fields → List ℕ → Matrix
 meaningIn f bytes = meaningBehind f (drop (headerBytes f) bytes)
 
--- the meaning that bytes have
-abbrev pub meaningOf : List ℕ → Matrix
-meaningOf bytes = meaningIn (fieldsOf bytes) bytes
+-- the meaning that bytes have, under what was told
+abbrev pub meaningOf : Told → List ℕ → Matrix
+meaningOf told bytes = meaningIn (fieldsOf told bytes) bytes

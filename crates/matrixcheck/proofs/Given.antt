@@ -1,7 +1,7 @@
 -- The rules of what is given are kept exactly where it has a lawful meaning. Assumes nothing.
 use Prim.Native.Nat.{ℕ, zero, _+_, _≤_, _<_, min}
-use mathlib.Core.Path.{_≡_, _∙_, sym, subst}
-use mathlib.Core.Bool.{Bool, true, false, _&&_, cond}
+use mathlib.Core.Path.{_≡_, refl, _∙_, sym, subst}
+use mathlib.Core.Bool.{Bool, true, false, not, _&&_, _||_, cond, false≢true}
 use mathlib.Core.List.{List, [], _∷_, _++_}
 use native.Mathlib.Omega.{arith}
 use borrow.Author.Tests.{eqb-true, eqb-false, ne-eqb, ltb-true, ltb-false, le-ltb, not-false}
@@ -13,14 +13,62 @@ use Rattle.verdict.proofs.Deciding.{kept-both, both-kept}
 use Rattle.verdict.proofs.Judging.{Kept}
 use Rattle.rule.specs.Rules.{Keeps, deviationRule, coefficientRule}
 use Rattle.matrix.specs.declared.Fields.{Fields}
-use Rattle.matrix.specs.Meaning.{Matrix, pairs, sum, nought, LawfulFields, LawfulValues, Lawful}
-use Rattle.matrix.specs.Table.{fieldRows}
-use Rattle.matrix.proofs.FieldRules.{fields-lawful, lawful-fields}
+use Rattle.matrix.specs.Meaning.{Matrix, pairs, sum, nought, LawfulFields, LawfulValues, Lawful, stating, Fits}
+use Rattle.matrix.specs.Table.{formatted, fieldRows}
+use Rattle.matrix.proofs.FieldRules.{fields-lawful, fields-room, lawful-fields, formatted-same}
 use Rattle.matrix.proofs.Keeping.{two-sizes}
 use Rattle.matrix.proofs.Pairs.{pairs-some}
-use Rattle.matrixcheck.specs.Given.{deviationMarks, meaningGiven, marksFit, sentFit, disagreeRows, valueRows, givenRows}
+use Rattle.matrixcheck.specs.Given.{deviationMarks, meaningGiven, marksFit, sentFit, formatsFit, formatRow, disagreeRows, valueRows, givenRows}
 use Rattle.matrixcheck.specs.Checking.{Enough}
 use Rattle.matrixcheck.proofs.Entries.{length-sent, sent-at, marks-fitting, fitting-marks, mark-between, between-mark, sent-keeps, keeps-sent}
+
+-- ---- the formats of the mode
+
+-- in Mode 1 the formats that fit are mapped and as stated
+formats-mapped : (one cf sf mapped : Bool) → not one || (cf && cond mapped sf (not sf)) ≡ true → one ≡ true → (cf ≡ true) × (sf ≡ mapped)
+formats-mapped one false sf mapped e o = absurd (false≢true (subst (λ (t : Bool). not t || false ≡ true) o e))
+formats-mapped one true true true e o = (refl, refl)
+formats-mapped one true true false e o = absurd (false≢true (subst (λ (t : Bool). not t || false ≡ true) o e))
+formats-mapped one true false true e o = absurd (false≢true (subst (λ (t : Bool). not t || false ≡ true) o e))
+formats-mapped one true false false e o = (refl, refl)
+
+mapped-formats : (one cf sf mapped : Bool) → (one ≡ true → (cf ≡ true) × (sf ≡ mapped)) → not one || (cf && cond mapped sf (not sf)) ≡ true
+mapped-formats false cf sf mapped h = refl
+mapped-formats true cf sf mapped h = let b = h refl in rw (b .0, b .1) (same mapped)
+  where
+    same : (mapped : Bool) → cond mapped mapped (not mapped) ≡ true
+    same true = refl
+    same false = refl
+
+module _ (mapped : Bool) (f : Fields) where
+  pub formats-same : formatsFit mapped f ≡ true → formatted mapped f ≡ f
+  formats-same e =
+      let b = formats-mapped (f .mode1) (f .cf) (f .sf) mapped e in
+      λ i. record { n = f .n; cs = f .cs; cf = coefficients b i; clen = f .clen; sf = deviations b i; slen = f .slen; mode1 = f .mode1 }
+    where
+      coefficients : (f .mode1 ≡ true → (f .cf ≡ true) × (f .sf ≡ mapped)) → f .mode1 || f .cf ≡ f .cf
+      coefficients b = either (f .mode1) (λ o. rw o (sym (b o .0))) (λ o. rw o)
+
+      deviations : (f .mode1 ≡ true → (f .cf ≡ true) × (f .sf ≡ mapped)) → cond (f .mode1) mapped (f .sf) ≡ f .sf
+      deviations b = either (f .mode1) (λ o. rw o (sym (b o .1))) (λ o. rw o)
+
+  -- fields that keep their rules in the formats of the mode are lawful, and fit what was stated
+  pub formats-lawful : formatsFit mapped f ≡ true → LawfulFields (formatted mapped f) → LawfulFields f
+  formats-lawful e = subst LawfulFields (formats-same e)
+
+  formats-fits : formatsFit mapped f ≡ true → Kept (fieldRows mapped f) → Fits (stating mapped) f
+  formats-fits e k one =
+      let b = formats-mapped (f .mode1) (f .cf) (f .sf) mapped e one in
+      let room = fields-room mapped f k one in
+      record { let-in = refl; coefficient-format = b .0; deviation-format = b .1; coefficient-room = room .0; deviation-room = room .1 }
+
+  fits-formats : Fits (stating mapped) f → formatsFit mapped f ≡ true
+  fits-formats fits = mapped-formats (f .mode1) (f .cf) (f .sf) mapped (λ one. (fits one .coefficient-format, fits one .deviation-format))
+
+  fits-fields : LawfulFields f → Fits (stating mapped) f → Kept (fieldRows mapped f)
+  fits-fields g fits = lawful-fields mapped f (subst LawfulFields (sym (formatted-same (stating mapped) f fits)) g) (λ one. (fits one .coefficient-room, fits one .deviation-room))
+
+-- ---- the values
 
 -- a list's sum is no less than its first entry
 first-most : (xs : List ℕ) → getD xs 0 0 ≤ sum xs
@@ -117,11 +165,12 @@ module _ (f : Fields) (deviations coefficients marks : List ℕ) where
         marks-enough = ltb-false (length marks) (pairs (f .n)) (k .1 .1 .0);
       }
 
-  pub given-lawful : Kept (givenRows f deviations coefficients marks) → Enough f deviations coefficients marks × Lawful m
-  given-lawful k =
-      let a = both-kept (fieldRows f) (disagreeRows f deviations coefficients marks ++ valueRows f deviations coefficients marks) k in
-      let b = both-kept (disagreeRows f deviations coefficients marks) (valueRows f deviations coefficients marks) (a .1) in
-      let g = fields-lawful f (a .0) in
+  pub given-lawful : (mapped : Bool) → Kept (givenRows mapped f deviations coefficients marks) → Enough f deviations coefficients marks × Lawful m × Fits (stating mapped) f
+  given-lawful mapped k =
+      let a = both-kept (fieldRows mapped f) (formatRow mapped f ∷ (disagreeRows f deviations coefficients marks ++ valueRows f deviations coefficients marks)) k in
+      let formats = not-false (formatsFit mapped f) (a .1 .0) in
+      let b = both-kept (disagreeRows f deviations coefficients marks) (valueRows f deviations coefficients marks) (a .1 .1) in
+      let g = formats-lawful mapped f formats (fields-lawful mapped f (a .0)) in
       let enough = enough-given (b .0) in
       let fit = not-false (marksFit f pairMarks) (b .0 .1 .1 .1 .0) in
       let devs = not-false (sentFit (deviationRule (f .sf) (f .slen)) (deviationMarks f) deviations) (b .1 .1 .0) in
@@ -142,6 +191,7 @@ module _ (f : Fields) (deviations coefficients marks : List ℕ) where
                 some-value = some-values g enough fit (b .1 .0);
               };
         },
+        formats-fits mapped f formats (a .0),
       )
 
   -- ---- and back
@@ -186,9 +236,11 @@ module _ (f : Fields) (deviations coefficients marks : List ℕ) where
         (λ s. rw s (either (eqb (f .slen) 0) (λ z. rw (z, ne-eqb (sum pairMarks) 0 (λ y. omega (arith, v .some-value, eqb-true (f .slen) 0 z)))) (λ z. rw z)))
         (λ s. rw s)
 
-    pub lawful-given : Enough f deviations coefficients marks → Kept (givenRows f deviations coefficients marks)
-    lawful-given enough =
-        kept-both (fieldRows f) (disagreeRows f deviations coefficients marks ++ valueRows f deviations coefficients marks) (lawful-fields f g)
-        (kept-both (disagreeRows f deviations coefficients marks) (valueRows f deviations coefficients marks)
-        (le-ltb (length deviations) (f .n) (enough .deviations-enough), (le-ltb (length coefficients) (pairs (f .n)) (enough .coefficients-enough), (le-ltb (length marks) (pairs (f .n)) (enough .marks-enough), (rw lawful-marks, tt))))
-        (not-empty, (rw lawful-deviations, (rw lawful-coefficients, tt))))
+    pub lawful-given : (mapped : Bool) → Fits (stating mapped) f → Enough f deviations coefficients marks → Kept (givenRows mapped f deviations coefficients marks)
+    lawful-given mapped fits enough =
+        kept-both (fieldRows mapped f) (formatRow mapped f ∷ (disagreeRows f deviations coefficients marks ++ valueRows f deviations coefficients marks)) (fits-fields mapped f g fits) (
+          rw (fits-formats mapped f fits),
+          kept-both (disagreeRows f deviations coefficients marks) (valueRows f deviations coefficients marks)
+              (le-ltb (length deviations) (f .n) (enough .deviations-enough), (le-ltb (length coefficients) (pairs (f .n)) (enough .coefficients-enough), (le-ltb (length marks) (pairs (f .n)) (enough .marks-enough), (rw lawful-marks, tt))))
+              (not-empty, (rw lawful-deviations, (rw lawful-coefficients, tt))),
+        )

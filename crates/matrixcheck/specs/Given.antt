@@ -45,6 +45,14 @@ unfoldable pub sentFit : Rule → List ℕ → List ℕ → Bool
 sentFit rule [] words = true
 sentFit rule (mark ∷ marks) words = (eqb mark 0 || admitted rule (getD words 0 0)) && sentFit rule marks (drop 1 words)
 
+-- Mode 1 has its own formats: mapped coefficients, and deviations as stated
+abbrev pub formatsFit : Bool → Fields → Bool
+formatsFit mapped f = not (f .mode1) || (f .cf && cond mapped (f .sf) (not (f .sf)))
+
+-- 14 for others
+abbrev pub formatRow : Bool → Fields → Row
+formatRow mapped f = record { broken = not (formatsFit mapped f); reason = Disagree }
+
 -- 14 if a list has fewer than N, M or M entries, or one of the first M marks does not fit
 abbrev pub disagreeRows : Fields → List ℕ → List ℕ → List ℕ → List Row
 disagreeRows f deviations coefficients marks =
@@ -62,6 +70,7 @@ valueRows f deviations coefficients marks =
     ∷ record { broken = not (sentFit (coefficientRule (f .cf) (f .clen)) (take (pairs (f .n)) marks) coefficients); reason = ValueRange }
     ∷ []
 
--- the rules of what is given, whatever is lent: 1 or 2 for N; Clen 6, 7, 8; Slen 6; 9 for no lengths; 14; 9; 11
-abbrev pub givenRows : Fields → List ℕ → List ℕ → List ℕ → List Row
-givenRows f deviations coefficients marks = fieldRows f ++ (disagreeRows f deviations coefficients marks ++ valueRows f deviations coefficients marks)
+-- the rules of what is given, whatever is lent, where Mode 1's deviations are mapped or not: 1 or 2 for N; Clen 6, 7, 8; Slen 6; 9 for no lengths; 14; 9; 11
+abbrev pub givenRows : Bool → Fields → List ℕ → List ℕ → List ℕ → List Row
+givenRows mapped f deviations coefficients marks =
+    fieldRows mapped f ++ (formatRow mapped f ∷ (disagreeRows f deviations coefficients marks ++ valueRows f deviations coefficients marks))

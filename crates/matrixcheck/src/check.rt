@@ -1,12 +1,13 @@
 // Whether what the writer is given keeps the rules, in document 01's order.
 ghost use mathlib.Core.Path.{_≡_};
 ghost use mathlib.Core.Bool.{true, cond};
-ghost use mathlib.Core.List.{_++_};
+ghost use mathlib.Core.List.{_∷_, _++_};
 ghost use Prim.Native.Nat.{_≤_};
 ghost use lib.ListN.{length, take, replicate};
 ghost use Rattle.rule.specs.Rules.{deviationRule, coefficientRule, ruleOf};
 ghost use Rattle.matrix.specs.Meaning.{pairs, sum, LawfulFields};
-ghost use Rattle.matrixcheck.specs.Given.{deviationMarks, marksFit, sentFit, disagreeRows, valueRows, givenRows};
+ghost use Rattle.matrix.specs.Table.{formatted};
+ghost use Rattle.matrixcheck.specs.Given.{deviationMarks, marksFit, sentFit, formatsFit, formatRow, disagreeRows, valueRows, givenRows};
 ghost use Rattle.matrixcheck.specs.Checking.{refusedFor, checkedOf, Enough};
 ghost use Rattle.matrixcheck.specs.Marking.{markedOf};
 use counts::mark_of;
@@ -214,12 +215,49 @@ fn check_lists(f: Fields, deviations: &[u64], coefficients: &[u64], marks: &[u8]
     }
 }
 
-pub fn check(f: Fields, deviations: &[u64], coefficients: &[u64], marks: &[u8]) -> Checked
-    ensures { λ r. ⌜ r ≡ checkedOf (givenRows f (now (deviations .entry)) (now (coefficients .entry)) (now (marks .entry))) (sum (take (pairs (f .n)) (now (marks .entry)))) ⌝ }
+// Whether the formats are those of the mode.
+fn formats_fit(f: Fields, mapped: bool) -> bool
+    ensures { λ r. ⌜ r ≡ formatsFit mapped f ⌝ }
 {
-    let allowed = judge_fields(f);
+    if !f.mode1 {
+        return true;
+    }
+    if mapped {
+        return f.cf & f.sf;
+    }
+    f.cf & !f.sf
+}
+
+// Fields that keep their rules in the formats that they are judged by, and the lists.
+fn check_formats(
+    f: Fields,
+    mapped: bool,
+    deviations: &[u64],
+    coefficients: &[u64],
+    marks: &[u8],
+) -> Checked
+    requires { ⌜ LawfulFields (formatted mapped f) ⌝ }
+    ensures { λ r. ⌜ r ≡ checkedOf (formatRow mapped f ∷ (disagreeRows f (now (deviations .entry)) (now (coefficients .entry)) (now (marks .entry)) ++ valueRows f (now (deviations .entry)) (now (coefficients .entry)) (now (marks .entry)))) (sum (take (pairs (f .n)) (now (marks .entry)))) ⌝ }
+{
+    if !formats_fit(f, mapped) {
+        return refuse(Reason::Disagree);
+    }
+    check_lists(f, deviations, coefficients, marks)
+}
+
+// What a writer is given; Mode 1's deviations are mapped or not.
+pub fn check(
+    f: Fields,
+    mapped: bool,
+    deviations: &[u64],
+    coefficients: &[u64],
+    marks: &[u8],
+) -> Checked
+    ensures { λ r. ⌜ r ≡ checkedOf (givenRows mapped f (now (deviations .entry)) (now (coefficients .entry)) (now (marks .entry))) (sum (take (pairs (f .n)) (now (marks .entry)))) ⌝ }
+{
+    let allowed = judge_fields(f, mapped);
     match allowed {
-        Allowed::Kept => check_lists(f, deviations, coefficients, marks),
+        Allowed::Kept => check_formats(f, mapped, deviations, coefficients, marks),
         Allowed::Refused(refusal) => Checked::Refused(refusal),
     }
 }

@@ -6,6 +6,7 @@ use lib.ListN.{length}
 use Rattle.verdict.specs.declared.Verdict.{Verdict}
 use Rattle.verdict.specs.declared.Verdict.the-variants.{Unfinished, Refused}
 use Rattle.matrix.specs.declared.Fields.{Fields}
+use Rattle.matrix.specs.declared.Told.{Told}
 use Rattle.matrixhead.specs.declared.header.Head.{Head}
 use Rattle.matrixhead.specs.declared.header.Head.the-variants.{Fields as HeadFields, Unfinished as HeadUnfinished, Refused as HeadRefused}
 use Rattle.matrixhead.specs.declared.vector.Sent.{Sent}
@@ -20,18 +21,18 @@ use Rattle.matrixhead.specs.Beginning.{before}
 
 -- ---- the header
 
--- lawful fields of the bytes, behind which the values follow
-pub record Headed (verdict : Verdict) (bytes : List ℕ) (f : Fields) : Type 0 where
-  pub same : f ≡ fieldsOf bytes
+-- lawful fields, those that the bytes have, behind which the values follow
+pub record Headed (verdict : Verdict) (fields : Fields) (bytes : List ℕ) (f : Fields) : Type 0 where
+  pub same : f ≡ fields
   pub lawful : LawfulFields f
   pub within : headerBytes f ≤ length bytes
   pub leads : verdict ≡ verdictBehind (enterValues f (vectorBytes f)) bytes (headerBytes f)
 
--- the header of the bytes that have this verdict
-abbrev pub HeadFrom : Verdict → List ℕ → Head → Type 0
-HeadFrom verdict bytes (HeadFields f) = Headed verdict bytes f
-HeadFrom verdict bytes (HeadUnfinished missing) = (verdict ≡ Unfinished missing) × (length bytes < headerBytes (fieldsOf bytes))
-HeadFrom verdict bytes (HeadRefused refusal) = (verdict ≡ Refused refusal) × (refusal .place < headerBytes (fieldsOf bytes))
+-- the header of bytes that have this verdict and these fields
+abbrev pub HeadFrom : Verdict → Fields → List ℕ → Head → Type 0
+HeadFrom verdict fields bytes (HeadFields f) = Headed verdict fields bytes f
+HeadFrom verdict fields bytes (HeadUnfinished missing) = (verdict ≡ Unfinished missing) × (length bytes < headerBytes fields)
+HeadFrom verdict fields bytes (HeadRefused refusal) = (verdict ≡ Refused refusal) × (refusal .place < headerBytes fields)
 
 -- ---- the bit vector
 
@@ -49,17 +50,28 @@ SentFrom bytes f (SentRefused refusal) = (verdictBehind (enterValues f (vectorBy
 
 -- ---- all that stands before the words
 
+-- behind the header of these fields
+pub record ValuesBy (bytes : List ℕ) (f g : Fields) (words sent : ℕ) : Type 0 where
+  pub same : g ≡ f
+  pub start : words ≡ wordsFrom f
+  pub counts : SentBy bytes f sent
+
+abbrev pub BegunBehind : List ℕ → Fields → Begun → Type 0
+BegunBehind bytes f (Values g words sent) = ValuesBy bytes f g words sent
+BegunBehind bytes f (BegunUnfinished missing) = SentFrom bytes f (SentUnfinished missing)
+BegunBehind bytes f (BegunRefused refusal) = SentFrom bytes f (SentRefused refusal)
+
 -- lawful fields, and the words that follow from a place on
-pub record BegunBy (bytes : List ℕ) (f : Fields) (words sent : ℕ) : Type 0 where
-  pub same : f ≡ fieldsOf bytes
+pub record BegunBy (told : Told) (bytes : List ℕ) (f : Fields) (words sent : ℕ) : Type 0 where
+  pub same : f ≡ fieldsOf told bytes
   pub lawful : LawfulFields f
   pub start : words ≡ wordsFrom f
   pub within : words ≤ length bytes
   pub counted : sent ≤ 2016
   pub marked : sent ≡ sentIn f bytes
-  pub leads : verdictOf bytes ≡ verdictBehind (enter (wordsOf f sent)) bytes words
+  pub leads : verdictOf told bytes ≡ verdictBehind (enter (wordsOf f sent)) bytes words
 
-abbrev pub BegunFrom : List ℕ → Begun → Type 0
-BegunFrom bytes (Values f words sent) = BegunBy bytes f words sent
-BegunFrom bytes (BegunUnfinished missing) = (verdictOf bytes ≡ Unfinished missing) × (length bytes < before bytes)
-BegunFrom bytes (BegunRefused refusal) = (verdictOf bytes ≡ Refused refusal) × (refusal .place < before bytes)
+abbrev pub BegunFrom : Told → List ℕ → Begun → Type 0
+BegunFrom told bytes (Values f words sent) = BegunBy told bytes f words sent
+BegunFrom told bytes (BegunUnfinished missing) = (verdictOf told bytes ≡ Unfinished missing) × (length bytes < before told bytes)
+BegunFrom told bytes (BegunRefused refusal) = (verdictOf told bytes ≡ Refused refusal) × (refusal .place < before told bytes)

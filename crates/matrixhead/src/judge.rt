@@ -4,7 +4,9 @@ ghost use Prim.Native.Nat.{_≤_, _-_, _*_};
 ghost use Rattle.rule.specs.Rules.{allowed};
 ghost use Rattle.matrix.specs.Meaning.{pairs};
 ghost use Rattle.matrix.specs.Header.{vectorBytes};
-ghost use Rattle.matrix.specs.Table.{sizeRows, coefficientRows, deviationRows, control1Rows, control2Rows, fieldRows, vectorRows};
+ghost use mathlib.Core.Bool.{cond};
+ghost use mathlib.Core.List.{_∷_, _++_};
+ghost use Rattle.matrix.specs.Table.{sizeRows, singleRows, coefficientRows, deviationRows, control1Rows, control2Rows, roomRow, formatted, fieldRows, vectorRows};
 ghost use Rattle.verdict.specs.Judgement.{judgement};
 ghost use Rattle.matrixhead.specs.Judging.{allowedBy};
 use matrix::Fields;
@@ -95,9 +97,84 @@ pub(crate) fn judge_control2(f: Fields, b: usize) -> Judged
     judge_deviations(f)
 }
 
-// Fields that a writer is given, by the rules in their order.
-fn judge_given(f: Fields) -> Judged
-    ensures { λ r. ⌜ r ≡ judgement (fieldRows f) ⌝ }
+// Mode 1's control byte, which says these fields.
+pub(crate) fn judge_single(f: Fields) -> Judged
+    ensures { λ r. ⌜ r ≡ judgement (singleRows f) ⌝ }
+{
+    if !allows(f.cf, f.clen) {
+        return Judged::Broken(Reason::ValueLength);
+    }
+    if !allows(f.sf, f.slen) {
+        return Judged::Broken(Reason::ValueLength);
+    }
+    if f.cs & (f.clen == 0) {
+        return Judged::Broken(Reason::Sparse);
+    }
+    if (f.n == 1) & (0 < f.clen) {
+        return Judged::Broken(Reason::SizeOne);
+    }
+    if (f.slen == 0) & (f.clen == 0) {
+        return Judged::Broken(Reason::Empty);
+    }
+    Judged::Kept
+}
+
+// The lengths of fields that a writer is given, in the formats that they are judged by: of the coefficients.
+fn judge_given_coefficients(f: Fields) -> Judged
+    ensures { λ r. ⌜ r ≡ judgement (roomRow f (f .clen) ∷ coefficientRows f) ⌝ }
+{
+    if f.mode1 & (7 < f.clen) {
+        return Judged::Broken(Reason::ValueLength);
+    }
+    judge_coefficients(f)
+}
+
+// And of the deviations.
+fn judge_given_deviations(f: Fields) -> Judged
+    ensures { λ r. ⌜ r ≡ judgement (roomRow f (f .slen) ∷ deviationRows f) ⌝ }
+{
+    if f.mode1 & (7 < f.slen) {
+        return Judged::Broken(Reason::ValueLength);
+    }
+    judge_deviations(f)
+}
+
+// The deviation format of a mode: Mode 1's is stated.
+fn format_in(mode1: bool, mapped: bool, sf: bool) -> bool
+    ensures { λ r. ⌜ r ≡ cond mode1 mapped sf ⌝ }
+{
+    if mode1 { mapped } else { sf }
+}
+
+// The fields in the formats that they are judged by.
+fn formatted_of(mapped: bool, f: Fields) -> Fields
+    ensures { λ r. ⌜ r ≡ formatted mapped f ⌝ }
+{
+    Fields {
+        n: f.n,
+        clen: f.clen,
+        slen: f.slen,
+        cs: f.cs,
+        cf: f.mode1 | f.cf,
+        sf: format_in(f.mode1, mapped, f.sf),
+        mode1: f.mode1,
+    }
+}
+
+// The coefficients' rules and then the deviations'.
+fn judge_lengths(f: Fields) -> Judged
+    ensures { λ r. ⌜ r ≡ judgement ((roomRow f (f .clen) ∷ coefficientRows f) ++ (roomRow f (f .slen) ∷ deviationRows f)) ⌝ }
+{
+    let judged = judge_given_coefficients(f);
+    match judged {
+        Judged::Kept => judge_given_deviations(f),
+        Judged::Broken(reason) => Judged::Broken(reason),
+    }
+}
+
+// Fields that a writer is given, by the rules in their order; Mode 1's deviations are mapped or not.
+fn judge_given(f: Fields, mapped: bool) -> Judged
+    ensures { λ r. ⌜ r ≡ judgement (fieldRows mapped f) ⌝ }
 {
     if f.n == 0 {
         return Judged::Broken(Reason::Zero);
@@ -105,18 +182,14 @@ fn judge_given(f: Fields) -> Judged
     if 64 < f.n {
         return Judged::Broken(Reason::TooLarge);
     }
-    let judged = judge_coefficients(f);
-    match judged {
-        Judged::Kept => judge_deviations(f),
-        Judged::Broken(reason) => Judged::Broken(reason),
-    }
+    judge_lengths(formatted_of(mapped, f))
 }
 
 // Fields that a writer is given.
-pub fn judge_fields(f: Fields) -> Allowed
-    ensures { λ r. ⌜ r ≡ allowedBy (judgement (fieldRows f)) ⌝ }
+pub fn judge_fields(f: Fields, mapped: bool) -> Allowed
+    ensures { λ r. ⌜ r ≡ allowedBy (judgement (fieldRows mapped f)) ⌝ }
 {
-    let judged = judge_given(f);
+    let judged = judge_given(f, mapped);
     match judged {
         Judged::Kept => Allowed::Kept,
         Judged::Broken(reason) => Allowed::Refused(Refusal { reason, place: 0 }),

@@ -1,8 +1,11 @@
 // What stands before the words of a matrix pack: its fields, and how many coefficients are sent.
 ghost use mathlib.Core.Path.{_≡_};
-ghost use Rattle.matrix.specs.Machine.{verdictOf};
+ghost use Prim.Native.Nat.{_≤_};
+ghost use lib.ListN.{length};
+ghost use Rattle.matrix.specs.Meaning.{LawfulFields};
+ghost use Rattle.matrix.specs.Header.{headerBytes};
 ghost use Rattle.matrixhead.specs.Beginning.{begunOf};
-ghost use Rattle.matrixhead.specs.Parts.{Headed, BegunFrom};
+ghost use Rattle.matrixhead.specs.Parts.{BegunBehind};
 use crate::header::Head;
 use crate::header::header;
 use crate::vector::Sent;
@@ -10,6 +13,7 @@ use crate::vector::sent_of;
 use counts::header_bytes;
 use counts::vector_bytes;
 use matrix::Fields;
+use matrix::Told;
 use verdict::Refusal;
 
 mod control;
@@ -30,8 +34,8 @@ pub enum Begun {
 
 // Behind the control bytes.
 fn from_values(bytes: &[u8], f: Fields) -> Begun
-    requires { ⌜ Headed (verdictOf (now bytes)) (now bytes) f ⌝ }
-    ensures { λ r. ⌜ BegunFrom (now (bytes .entry)) r ⌝ }
+    requires { ⌜ LawfulFields f × (headerBytes f ≤ length (now bytes)) ⌝ }
+    ensures { λ r. ⌜ BegunBehind (now (bytes .entry)) f r ⌝ }
 {
     let answer = sent_of(bytes, f);
     match answer {
@@ -45,11 +49,11 @@ fn from_values(bytes: &[u8], f: Fields) -> Begun
     }
 }
 
-// What the bytes begin with, up to the first word.
-pub fn begin(bytes: &[u8]) -> Begun
-    ensures { λ r. ⌜ r ≡ begunOf (now (bytes .entry)) ⌝ }
+// What the bytes begin with, up to the first word, under what is told.
+pub fn begin(bytes: &[u8], told: Told) -> Begun
+    ensures { λ r. ⌜ r ≡ begunOf told (now (bytes .entry)) ⌝ }
 {
-    let head = header(bytes);
+    let head = header(bytes, told);
     match head {
         Head::Fields(f) => from_values(bytes, f),
         Head::Unfinished(missing) => Begun::Unfinished(missing),

@@ -25,12 +25,13 @@ pub(crate) enum Sent {
     Refused(Refusal),
 }
 
-// How many bits of eight bytes at a place are 1.
+// How many bits of eight bytes at a place are 1; they are read from the part that is their own, so that no test of it is left.
 fn ones_of_eight(bytes: &[u8], place: usize) -> usize
     requires { ⌜ place + 8 ≤ length (now bytes) ⌝ }
     ensures { λ r. ⌜ r ≡ sum (bits (take 8 (drop place (now (bytes .entry))))) ⌝ }
 {
-    let read = read_at(bytes, place, 8);
+    let end = place + 8;
+    let read = read_at(&bytes[place..end], 0, 8);
     match read {
         Read::Word(word) => u64::count_ones(word) as usize,
         Read::Unfinished(_) => 0,

@@ -7,6 +7,7 @@ use Rattle.verdict.specs.declared.Verdict.the-variants.{Complete, Unfinished, R
 use Rattle.matrixwalk.specs.declared.Walked.{Walked}
 use Rattle.matrixwalk.specs.declared.Walked.the-variants.{Whole, Unfinished as WalkedUnfinished, Refused as WalkedRefused}
 use Rattle.matrixwalk.specs.Walk.{walkedFor, walkedOf}
+use Rattle.matrix.specs.declared.Told.{Told}
 use Rattle.matrix.specs.Machine.{verdictOf}
 use Rattle.matrixreader.specs.declared.MatrixRead.{MatrixRead}
 use Rattle.matrixreader.specs.declared.MatrixRead.the-variants.{Matrix, Unfinished as ReadUnfinished, Refused as ReadRefused}
@@ -18,10 +19,10 @@ readIn (Whole found) = Matrix (found .fields) (found .length)
 readIn (WalkedUnfinished missing) = ReadUnfinished missing
 readIn (WalkedRefused refusal) = ReadRefused refusal
 
-read-back : (bytes : List ℕ) (v : Verdict) → readIn (walkedFor bytes v) ≡ matrixReadFor bytes v
-read-back bytes (Complete n) = refl
-read-back bytes (Unfinished missing) = refl
-read-back bytes (Refused refusal) = refl
+read-back : (told : Told) (bytes : List ℕ) (v : Verdict) → readIn (walkedFor told bytes v) ≡ matrixReadFor told bytes v
+read-back told bytes (Complete n) = refl
+read-back told bytes (Unfinished missing) = refl
+read-back told bytes (Refused refusal) = refl
 
-pub walk-read : (bytes : List ℕ) (walked : Walked) → walked ≡ walkedOf bytes → readIn walked ≡ matrixReadOf bytes
-walk-read bytes walked e = ap readIn e ∙ read-back bytes (verdictOf bytes)
+pub walk-read : (told : Told) (bytes : List ℕ) (walked : Walked) → walked ≡ walkedOf told bytes → readIn walked ≡ matrixReadOf told bytes
+walk-read told bytes walked e = ap readIn e ∙ read-back told bytes (verdictOf told bytes)

@@ -5,7 +5,7 @@ use Rattle.matrix.specs.Listed.{fieldNumbers}
 use Rattle.matrixreader.specs.declared.MatrixRead.{MatrixRead}
 use Rattle.matrixreader.specs.declared.MatrixRead.the-variants.{Matrix, Unfinished, Refused}
 
--- N and the five control fields, with the length
+-- N, the five control fields and the mode, with the length
 abbrev pub statedMatrixRead : MatrixRead → Stated
 statedMatrixRead (Matrix fields length) = gives (fieldNumbers fields ++ (length ∷ []))
 statedMatrixRead (Unfinished missing) = misses missing

@@ -3,6 +3,7 @@ ghost use mathlib.Core.Path.{_≡_};
 ghost use Rattle.matrix.specs.Machine.{verdictOf};
 ghost use Rattle.matrixreader.specs.Reading.{matrixReadOf};
 use matrix::Fields;
+use matrix::Told;
 use matrixwalk::Walked;
 use matrixwalk::found_in;
 use verdict::Refusal;
@@ -15,11 +16,11 @@ pub enum MatrixRead {
     Refused(Refusal),
 }
 
-// The verdict on a string of bytes as a matrix pack.
-pub fn verdict(bytes: &[u8]) -> Verdict
-    ensures { λ r. ⌜ r ≡ verdictOf (now (bytes .entry)) ⌝ }
+// The verdict on a string of bytes as a matrix pack, under what is told.
+pub fn verdict(bytes: &[u8], told: Told) -> Verdict
+    ensures { λ r. ⌜ r ≡ verdictOf told (now (bytes .entry)) ⌝ }
 {
-    let walked = found_in(bytes);
+    let walked = found_in(bytes, told);
     match walked {
         Walked::Whole(found) => Verdict::Complete(found.length),
         Walked::Unfinished(missing) => Verdict::Unfinished(missing),
@@ -27,11 +28,11 @@ pub fn verdict(bytes: &[u8]) -> Verdict
     }
 }
 
-// The size and the control fields of the matrix pack that the bytes begin with.
-pub fn read(bytes: &[u8]) -> MatrixRead
-    ensures { λ r. ⌜ r ≡ matrixReadOf (now (bytes .entry)) ⌝ }
+// The size, the control fields and the mode of the matrix pack that the bytes begin with.
+pub fn read(bytes: &[u8], told: Told) -> MatrixRead
+    ensures { λ r. ⌜ r ≡ matrixReadOf told (now (bytes .entry)) ⌝ }
 {
-    let walked = found_in(bytes);
+    let walked = found_in(bytes, told);
     match walked {
         Walked::Whole(found) => {
             let fields = found.fields;

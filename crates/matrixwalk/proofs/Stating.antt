@@ -5,20 +5,21 @@ use mathlib.Core.List.{List, []}
 use Rattle.verdict.specs.declared.Verdict.{Verdict}
 use Rattle.verdict.specs.declared.Verdict.the-variants.{Complete, Unfinished, Refused}
 use Rattle.verdict.specs.Stated.{statedVerdict}
+use Rattle.matrix.specs.declared.Told.{Told}
 use Rattle.matrix.specs.Machine.{verdictOf}
 use Rattle.matrixwalk.specs.Walk.{foundOf, walkedFor, walkedOf}
 use Rattle.matrixwalk.specs.Stated.{foundNumbers, statedWalked}
 
 -- the numbers of a complete pack
-abbrev pub walked-values : List ℕ → Verdict → List ℕ
-walked-values bytes (Complete n) = foundNumbers (foundOf bytes n)
-walked-values bytes (Unfinished missing) = []
-walked-values bytes (Refused refusal) = []
+abbrev pub walked-values : Told → List ℕ → Verdict → List ℕ
+walked-values told bytes (Complete n) = foundNumbers (foundOf told bytes n)
+walked-values told bytes (Unfinished missing) = []
+walked-values told bytes (Refused refusal) = []
 
-pub walked-states : (bytes : List ℕ) → statedWalked (walkedOf bytes) ≡ statedVerdict (verdictOf bytes) (walked-values bytes (verdictOf bytes))
-walked-states bytes = by (verdictOf bytes)
+pub walked-states : (told : Told) (bytes : List ℕ) → statedWalked (walkedOf told bytes) ≡ statedVerdict (verdictOf told bytes) (walked-values told bytes (verdictOf told bytes))
+walked-states told bytes = by (verdictOf told bytes)
   where
-    by : (v : Verdict) → statedWalked (walkedFor bytes v) ≡ statedVerdict v (walked-values bytes v)
+    by : (v : Verdict) → statedWalked (walkedFor told bytes v) ≡ statedVerdict v (walked-values told bytes v)
     by (Complete n) = refl
     by (Unfinished missing) = refl
     by (Refused refusal) = refl

@@ -1,17 +1,16 @@
 -- What the parts of a walk come to: the verdict on the whole, or the whole pack. Assumes nothing.
-use Prim.Native.Nat.{ℕ, _+_, _*_}
+use Prim.Native.Nat.{ℕ, _*_}
 use mathlib.Core.Path.{_≡_, refl, sym, ap, ap₂, _∙_}
 use mathlib.Core.List.{List, [], _∷_}
 use native.Mathlib.Omega.{arith}
-use lib.ListN.{length}
 use Rattle.verdict.specs.declared.Verdict.{Verdict}
 use Rattle.verdict.specs.declared.Verdict.the-variants.{Complete, Unfinished, Refused}
 use Rattle.verdict.specs.Reaching.{led}
 use Rattle.rule.specs.declared.rules.Rule.{Rule}
 use Rattle.rule.specs.Rules.{deviationRule, coefficientRule, ruledBy}
-use Rattle.rule.proofs.Certain.{deviation-length, coefficient-length}
+use Rattle.rule.proofs.Certain.{coefficient-length}
 use Rattle.matrix.specs.declared.Fields.{Fields}
-use Rattle.matrixwalk.specs.declared.Found.{Found}
+use Rattle.matrix.specs.declared.Told.{Told}
 use Rattle.matrixwalk.specs.declared.Walked.{Walked}
 use Rattle.matrixwalk.specs.declared.Walked.the-variants.{Whole, Unfinished as WalkedUnfinished, Refused as WalkedRefused}
 use Rattle.matrix.specs.Meaning.{LawfulFields}
@@ -20,7 +19,7 @@ use Rattle.matrixhead.specs.Parts.{BegunBy}
 use Rattle.matrix.specs.Machine.{Run, enter, runBytes, verdictOf}
 use Rattle.matrix.specs.Reached.{verdictBehind}
 use Rattle.matrixwalk.specs.Walk.{walkedFor, walkedOf}
-use Rattle.matrixwalk.specs.Parts.{ruleIn, runOf, PassedTo, PastDeviations, FoundIn, WalkFrom}
+use Rattle.matrixwalk.specs.Parts.{ruleIn, runOf, WordsAt, verdictFrom, PassedTo, PastDeviations, FoundIn, WalkFrom}
 
 -- the rules that lawful fields choose
 module _ (f : Fields) (g : LawfulFields f) where
@@ -31,7 +30,7 @@ module _ (f : Fields) (g : LawfulFields f) where
   chosen-coefficients = rw (g .first .coefficient-length)
 
 module _ (bytes : List ℕ) (f : Fields) (sent words : ℕ) (rule : Rule) where
-  module _ (b : BegunBy bytes f words sent) (e : rule ≡ deviationRule (f .sf) (f .slen)) where
+  module _ (b : WordsAt bytes f words sent) (e : rule ≡ deviationRule (f .sf) (f .slen)) where
     -- the coefficients behind the deviations
     abbrev behind : List Run
     behind = runOf (coefficientRule (f .cf) (f .clen)) sent ∷ []
@@ -40,54 +39,52 @@ module _ (bytes : List ℕ) (f : Fields) (sent words : ℕ) (rule : Rule) where
     unfolding runBytes
     behind-bytes = rw (coefficient-length (f .cf) (f .clen) (b .lawful .first .coefficient-length)) (omega arith)
 
-    to-deviations : verdictOf bytes ≡ verdictBehind (enter (runOf rule (f .n) ∷ behind)) bytes words
-    to-deviations = rw e (b .leads)
+    to-deviations : verdictFrom bytes f words sent ≡ verdictBehind (enter (runOf rule (f .n) ∷ behind)) bytes words
+    to-deviations = rw e refl
 
-    pub deviations-end : (v : Verdict) → ((runs : List Run) → runBytes runs ≡ sent * f .clen → verdictBehind (enter (runOf rule (f .n) ∷ runs)) bytes words ≡ v) → verdictOf bytes ≡ v
+    pub deviations-end : (v : Verdict) → ((runs : List Run) → runBytes runs ≡ sent * f .clen → verdictBehind (enter (runOf rule (f .n) ∷ runs)) bytes words ≡ v) → verdictFrom bytes f words sent ≡ v
     deviations-end v x = to-deviations ∙ x behind behind-bytes
 
     pub deviations-passed : (place : ℕ) → PassedTo bytes words (f .n) rule (sent * f .clen) place → PastDeviations bytes f words sent place
-    deviations-passed place p =
-        record {
-          begun = b;
-          same = p .same ∙ ap (λ (k : ℕ). words + f .n * k) (ap (λ (r : Rule). r .length) e ∙ deviation-length (f .sf) (f .slen) (b .lawful .deviation-length));
-          within = p .within;
-          leads = to-deviations ∙ p .leads behind behind-bytes;
-        }
+    deviations-passed place p = record { begun = b; within = p .within; leads = to-deviations ∙ p .leads behind behind-bytes }
 
   module _ (place : ℕ) (d : PastDeviations bytes f words sent place) (e : rule ≡ coefficientRule (f .cf) (f .clen)) where
-    to-coefficients : verdictOf bytes ≡ verdictBehind (enter (runOf rule sent ∷ [])) bytes place
+    to-coefficients : verdictFrom bytes f words sent ≡ verdictBehind (enter (runOf rule sent ∷ [])) bytes place
     to-coefficients = rw e (d .leads)
 
-    pub coefficients-end : (v : Verdict) → ((runs : List Run) → runBytes runs ≡ 0 → verdictBehind (enter (runOf rule sent ∷ runs)) bytes place ≡ v) → verdictOf bytes ≡ v
+    pub coefficients-end : (v : Verdict) → ((runs : List Run) → runBytes runs ≡ 0 → verdictBehind (enter (runOf rule sent ∷ runs)) bytes place ≡ v) → verdictFrom bytes f words sent ≡ v
     unfolding runBytes
     coefficients-end v x = to-coefficients ∙ x [] refl
 
-    pub coefficients-passed : (end : ℕ) → PassedTo bytes place sent rule 0 end → FoundIn bytes (record { fields = f; words = words; sent = sent; length = end })
+    pub coefficients-passed : (end : ℕ) → PassedTo bytes place sent rule 0 end → FoundIn bytes f words sent (record { fields = f; words = words; sent = sent; length = end })
     unfolding runBytes enter led
-    coefficients-passed end p =
-        let l : rule .length ≡ f .clen = ap (λ (r : Rule). r .length) e ∙ coefficient-length (f .cf) (f .clen) (d .begun .lawful .first .coefficient-length) in
-        record {
-          begun = d .begun;
-          end = p .same ∙ rw (d .same, l);
-          within = p .within;
-          said = to-coefficients ∙ p .leads [] refl;
-        }
+    coefficients-passed end p = record { same = refl; said = to-coefficients ∙ p .leads [] refl }
 
--- what was found of a whole pack is what its bytes have
-found-same : (bytes : List ℕ) (found : Found) → FoundIn bytes found → Whole found ≡ walkedFor bytes (Complete (found .length))
-found-same bytes found x =
-    let e = x .begun .same in
-    let w : found .words ≡ wordsFrom (fieldsOf bytes) = x .begun .start ∙ ap wordsFrom e in
-    let s : found .sent ≡ sentIn (fieldsOf bytes) bytes = x .begun .marked ∙ ap (λ (f : Fields). sentIn f bytes) e in
-    ap (λ (f : Fields). Whole (record { fields = f; words = found .words; sent = found .sent; length = found .length })) e
-    ∙ ap₂ (λ (p k : ℕ). Whole (record { fields = fieldsOf bytes; words = p; sent = k; length = found .length })) w s
+-- ---- the whole pack, under what was told
 
--- the walk's contract admits one answer
-pub walked-one : (bytes : List ℕ) (walked : Walked) → WalkFrom bytes walked → walked ≡ walkedOf bytes
-walked-one bytes (Whole found) x = found-same bytes found x ∙ sym (ap (walkedFor bytes) (x .said))
-walked-one bytes (WalkedUnfinished missing) x = sym (ap (walkedFor bytes) x)
-walked-one bytes (WalkedRefused refusal) x = sym (ap (walkedFor bytes) x)
+module _ (told : Told) (bytes : List ℕ) where
+  -- what begins a pack leads to its words
+  pub begun-words : (f : Fields) (words sent : ℕ) → BegunBy told bytes f words sent → WordsAt bytes f words sent
+  begun-words f words sent b = record { lawful = b .lawful; within = b .within; counted = b .counted }
+
+  -- what was found of a whole pack is what its bytes have
+  found-same : (f : Fields) (words sent : ℕ) → BegunBy told bytes f words sent → (n : ℕ) → Whole (record { fields = f; words = words; sent = sent; length = n }) ≡ walkedFor told bytes (Complete n)
+  found-same f words sent b n =
+      let e = b .same in
+      let w : words ≡ wordsFrom (fieldsOf told bytes) = b .start ∙ ap wordsFrom e in
+      let s : sent ≡ sentIn (fieldsOf told bytes) bytes = b .marked ∙ ap (λ (g : Fields). sentIn g bytes) e in
+      ap (λ (g : Fields). Whole (record { fields = g; words = words; sent = sent; length = n })) e
+      ∙ ap₂ (λ (p k : ℕ). Whole (record { fields = fieldsOf told bytes; words = p; sent = k; length = n })) w s
+
+  -- an answer that stands for the verdict is the walk's
+  pub ended-one : (v : Verdict) (walked : Walked) → walked ≡ walkedFor told bytes v → verdictOf told bytes ≡ v → walked ≡ walkedOf told bytes
+  ended-one v walked e x = e ∙ sym (ap (walkedFor told bytes) x)
+
+  -- the walk's contract admits one answer
+  pub walked-one : (f : Fields) (words sent : ℕ) → BegunBy told bytes f words sent → (walked : Walked) → WalkFrom bytes f words sent walked → walked ≡ walkedOf told bytes
+  walked-one f words sent b (Whole found) x = ended-one (Complete (found .length)) (Whole found) (ap Whole (x .same) ∙ found-same f words sent b (found .length)) (b .leads ∙ x .said)
+  walked-one f words sent b (WalkedUnfinished missing) x = ended-one (Unfinished missing) (WalkedUnfinished missing) refl (b .leads ∙ x)
+  walked-one f words sent b (WalkedRefused refusal) x = ended-one (Refused refusal) (WalkedRefused refusal) refl (b .leads ∙ x)
 
 -- the verdict that a walk's answer stands for
 abbrev pub verdictIn : Walked → Verdict
@@ -95,10 +92,10 @@ verdictIn (Whole found) = Complete (found .length)
 verdictIn (WalkedUnfinished missing) = Unfinished missing
 verdictIn (WalkedRefused refusal) = Refused refusal
 
-verdict-back : (bytes : List ℕ) (v : Verdict) → verdictIn (walkedFor bytes v) ≡ v
-verdict-back bytes (Complete n) = refl
-verdict-back bytes (Unfinished missing) = refl
-verdict-back bytes (Refused refusal) = refl
+verdict-back : (told : Told) (bytes : List ℕ) (v : Verdict) → verdictIn (walkedFor told bytes v) ≡ v
+verdict-back told bytes (Complete n) = refl
+verdict-back told bytes (Unfinished missing) = refl
+verdict-back told bytes (Refused refusal) = refl
 
-pub walk-said : (bytes : List ℕ) (walked : Walked) → walked ≡ walkedOf bytes → verdictOf bytes ≡ verdictIn walked
-walk-said bytes walked e = sym (ap verdictIn e ∙ verdict-back bytes (verdictOf bytes))
+pub walk-said : (told : Told) (bytes : List ℕ) (walked : Walked) → walked ≡ walkedOf told bytes → verdictOf told bytes ≡ verdictIn walked
+walk-said told bytes walked e = sym (ap verdictIn e ∙ verdict-back told bytes (verdictOf told bytes))

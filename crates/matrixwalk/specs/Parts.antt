@@ -20,9 +20,9 @@ use Rattle.matrixwalk.specs.declared.words.Passed.the-variants.{To, Unfi
 use Rattle.matrixwalk.specs.declared.Found.{Found}
 use Rattle.matrixwalk.specs.declared.Walked.{Walked}
 use Rattle.matrixwalk.specs.declared.Walked.the-variants.{Whole, Unfinished as WalkedUnfinished, Refused as WalkedRefused}
-use Rattle.matrix.specs.Machine.{State, word, Run, enter, runBytes, verdictOf}
+use Rattle.matrix.specs.Meaning.{LawfulFields}
+use Rattle.matrix.specs.Machine.{State, word, Run, enter, wordsOf, runBytes}
 use Rattle.matrix.specs.Reached.{verdictAt, verdictBehind}
-use Rattle.matrixhead.specs.Parts.{BegunBy}
 
 -- ---- words
 
@@ -103,21 +103,28 @@ abbrev pub ruleIn : Ruled → Rule
 ruleIn (By rule) = rule
 ruleIn (RuledRefused refusal) = record { length = 0; sign = 0; greatest = 0 }
 
+-- the words of lawful fields begin at a place, and so many coefficients are sent
+pub record WordsAt (bytes : List ℕ) (f : Fields) (words sent : ℕ) : Type 0 where
+  pub lawful : LawfulFields f
+  pub within : words ≤ length bytes
+  pub counted : sent ≤ 2016
+
+-- the verdict from the first word on
+abbrev pub verdictFrom : List ℕ → Fields → ℕ → ℕ → Verdict
+verdictFrom bytes f words sent = verdictBehind (enter (wordsOf f sent)) bytes words
+
 -- the deviations end at a place, and the coefficients that are sent follow
 pub record PastDeviations (bytes : List ℕ) (f : Fields) (words sent place : ℕ) : Type 0 where
-  pub begun : BegunBy bytes f words sent
-  pub same : place ≡ words + f .n * f .slen
+  pub begun : WordsAt bytes f words sent
   pub within : place ≤ length bytes
-  pub leads : verdictOf bytes ≡ verdictBehind (enter (runOf (coefficientRule (f .cf) (f .clen)) sent ∷ [])) bytes place
+  pub leads : verdictFrom bytes f words sent ≡ verdictBehind (enter (runOf (coefficientRule (f .cf) (f .clen)) sent ∷ [])) bytes place
 
 -- a whole pack was found
-pub record FoundIn (bytes : List ℕ) (found : Found) : Type 0 where
-  pub begun : BegunBy bytes (found .fields) (found .words) (found .sent)
-  pub end : found .length ≡ found .words + found .fields .n * found .fields .slen + found .sent * found .fields .clen
-  pub within : found .length ≤ length bytes
-  pub said : verdictOf bytes ≡ Complete (found .length)
+pub record FoundIn (bytes : List ℕ) (f : Fields) (words sent : ℕ) (found : Found) : Type 0 where
+  pub same : found ≡ record { fields = f; words = words; sent = sent; length = found .length }
+  pub said : verdictFrom bytes f words sent ≡ Complete (found .length)
 
-abbrev pub WalkFrom : List ℕ → Walked → Type 0
-WalkFrom bytes (Whole found) = FoundIn bytes found
-WalkFrom bytes (WalkedUnfinished missing) = verdictOf bytes ≡ Unfinished missing
-WalkFrom bytes (WalkedRefused refusal) = verdictOf bytes ≡ Refused refusal
+abbrev pub WalkFrom : List ℕ → Fields → ℕ → ℕ → Walked → Type 0
+WalkFrom bytes f words sent (Whole found) = FoundIn bytes f words sent found
+WalkFrom bytes f words sent (WalkedUnfinished missing) = verdictFrom bytes f words sent ≡ Unfinished missing
+WalkFrom bytes f words sent (WalkedRefused refusal) = verdictFrom bytes f words sent ≡ Refused refusal

@@ -1,11 +1,11 @@
 // One pass over a matrix pack: what was found of a whole one, or why there is none.
 ghost use mathlib.Core.Path.{_≡_};
-ghost use Rattle.matrixhead.specs.Parts.{BegunBy};
 ghost use Rattle.matrixwalk.specs.Walk.{walkedOf};
-ghost use Rattle.matrixwalk.specs.Parts.{ruleIn, PastDeviations, WalkFrom};
+ghost use Rattle.matrixwalk.specs.Parts.{ruleIn, WordsAt, PastDeviations, WalkFrom};
 use crate::words::Passed;
 use crate::words::pass;
 use matrix::Fields;
+use matrix::Told;
 use matrixhead::Begun;
 use matrixhead::begin;
 use rule::rules::Form;
@@ -48,7 +48,7 @@ fn chosen(ruled: Ruled) -> Rule
 // Behind the deviations, which end at `place`.
 fn from_coefficients(bytes: &[u8], f: Fields, words: usize, sent: usize, place: usize) -> Walked
     requires { ⌜ PastDeviations (now bytes) f words sent place ⌝ }
-    ensures { λ r. ⌜ WalkFrom (now (bytes .entry)) r ⌝ }
+    ensures { λ r. ⌜ WalkFrom (now (bytes .entry)) f words sent r ⌝ }
 {
     let rule = chosen(coefficient_rule(f.cf, f.clen));
     let form = Form {
@@ -71,8 +71,8 @@ fn from_coefficients(bytes: &[u8], f: Fields, words: usize, sent: usize, place: 
 
 // From the first word on, which stands at `words`.
 fn from_deviations(bytes: &[u8], f: Fields, words: usize, sent: usize) -> Walked
-    requires { ⌜ BegunBy (now bytes) f words sent ⌝ }
-    ensures { λ r. ⌜ WalkFrom (now (bytes .entry)) r ⌝ }
+    requires { ⌜ WordsAt (now bytes) f words sent ⌝ }
+    ensures { λ r. ⌜ WalkFrom (now (bytes .entry)) f words sent r ⌝ }
 {
     let rule = chosen(deviation_rule(f.sf, f.slen));
     let form = Form {
@@ -88,11 +88,11 @@ fn from_deviations(bytes: &[u8], f: Fields, words: usize, sent: usize) -> Walked
     }
 }
 
-// What a walk over the bytes finds, for callers that read the words themselves.
-pub fn found_in(bytes: &[u8]) -> Walked
-    ensures { λ r. ⌜ r ≡ walkedOf (now (bytes .entry)) ⌝ }
+// What a walk over the bytes finds under what is told, for callers that read the words themselves.
+pub fn found_in(bytes: &[u8], told: Told) -> Walked
+    ensures { λ r. ⌜ r ≡ walkedOf told (now (bytes .entry)) ⌝ }
 {
-    let begun = begin(bytes);
+    let begun = begin(bytes, told);
     match begun {
         Begun::Values {
             fields,

@@ -12,5 +12,5 @@ pub write-only : OneAnswer write.ps write.r write-reads.Post
 write-only κs a x y s t p q = p .said ∙ sym (q .said)
 
 pub write-leaves : (κs : Lfts 4) (a : Dens κs write.ps) (x y : resT write.r κs .Denot) (s t : AtExit (endedOf 4 write.ps write.r) κs)
-    → write-reads.Post κs a x s → write-reads.Post κs a y t → now (s .1 .1 .1 .1 .0) ≡ now (t .1 .1 .1 .1 .0)
+    → write-reads.Post κs a x s → write-reads.Post κs a y t → now (s .1 .1 .1 .1 .1 .0) ≡ now (t .1 .1 .1 .1 .1 .0)
 write-leaves κs a x y s t p q = p .left ∙ sym (q .left)

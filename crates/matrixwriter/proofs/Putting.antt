@@ -1,6 +1,7 @@
 -- Words and the bit vector put one after the other. Assumes nothing.
 use Prim.Native.Nat.{ℕ, _+_, _-_, _*_, _^_, _≤_, _<_, min}
 use mathlib.Core.Path.{_≡_, sym, ap, _∙_, subst}
+use mathlib.Core.Bool.{true, false}
 use mathlib.Core.List.{List, [], _∷_, _++_}
 use native.Mathlib.Nat.{one-mul, zero-mul, mul-le-mul-right}
 use native.Mathlib.Numerals.{add-one}
@@ -10,7 +11,7 @@ use lib.ListN.{length, take, drop, getD, set, replicate, length-drop}
 use lib.Seq.{take-take, length-take-le, getD-take}
 use Rattle.verdict.specs.declared.Verdict.{Verdict}
 use Rattle.verdict.specs.Writing.{put}
-use Rattle.verdict.proofs.Putting.{put-none, put-put, put-more, put-three, length-put}
+use Rattle.verdict.proofs.Putting.{put-none, put-put, put-more, put-two, put-three, length-put}
 use Rattle.word.specs.Digits.{digits, valueOf}
 use Rattle.word.specs.Many.{bytesFor, WrittenOver}
 use Rattle.word.proofs.Words.{length-bytes, left-written}
@@ -18,9 +19,10 @@ use Rattle.word.proofs.Gathered.{all-below}
 use Rattle.matrix.specs.declared.Fields.{Fields}
 use Rattle.matrix.specs.Meaning.{sum}
 use Rattle.matrix.specs.Spelling.{packed, spelled}
-use Rattle.matrix.specs.Header.{control1, control2, headerOf, headerBytes}
+use Rattle.matrix.specs.Header.{control, control1, control2, headerOf, headerBytes}
 use Rattle.matrix.proofs.BitVector.{length-packed}
 use Rattle.matrix.proofs.Decoding.{length-spelled, length-ones}
+use Rattle.matrix.proofs.Header.{header-one, header-two, header-single, header-double}
 use Rattle.matrix.proofs.Sums.{sum-more, sum-first-most}
 use Rattle.matrixwriter.specs.Sending.{Sendable}
 use Rattle.matrixwriter.proofs.Spelled.{spelled-none, spelled-more, all-spelled, full-spelled, packed-more, bitsFrom}
@@ -33,9 +35,11 @@ unsent-put out place size mark word e = rw (e, zero-mul size) (sym (put-none out
 pub sent-put : (out : List ℕ) (place size mark word : ℕ) (out′ : List ℕ) → mark ≡ 1 → out′ ≡ put out place (digits 256 size word) → out′ ≡ put out place (digits 256 (mark * size) word)
 sent-put out place size mark word out′ e p = rw (e, one-mul size) p
 
-pub header-put : (f : Fields) (out : List ℕ) (a b : ℕ) → a ≡ control1 f → b ≡ control2 f → headerBytes f ≤ length out → set (set (set out 0 (f .n)) 1 a) 2 b ≡ put out 0 (headerOf f)
-unfolding headerOf headerBytes
-header-put f out a b e g h = rw (e, g) (put-three out 0 (f .n) (control1 f) (control2 f) (omega arith))
+pub single-put : (f : Fields) (out : List ℕ) (a : ℕ) → f .mode1 ≡ true → a ≡ control f → headerBytes f ≤ length out → set (set out 0 (f .n)) 1 a ≡ put out 0 (headerOf f)
+single-put f out a one e h = rw (e, header-single f one) (put-two out 0 (f .n) (control f) (omega (arith, header-one f one)))
+
+pub double-put : (f : Fields) (out : List ℕ) (a b : ℕ) → f .mode1 ≡ false → a ≡ control1 f → b ≡ control2 f → headerBytes f ≤ length out → set (set (set out 0 (f .n)) 1 a) 2 b ≡ put out 0 (headerOf f)
+double-put f out a b two e g h = rw (e, g, header-double f two) (put-three out 0 (f .n) (control1 f) (control2 f) (omega (arith, header-two f two)))
 
 -- ---- one after the other
 

@@ -1,6 +1,6 @@
 // The bytes of a lawful pack, put one after the other where there is room.
 ghost use mathlib.Core.Path.{_≡_};
-ghost use mathlib.Core.Bool.{false};
+ghost use mathlib.Core.Bool.{true, false};
 ghost use mathlib.Core.List.{_++_};
 ghost use Prim.Native.Nat.{ℕ, _+_, _*_, _^_, _≤_, _<_, min};
 ghost use lib.ListN.{length as count, take, drop, replicate, getD};
@@ -42,9 +42,19 @@ fn put_sent(out: &mut [u8], place: usize, length: usize, mark: u8, word: u64)
     put_word(out, place, length, word);
 }
 
-// The size and the control bytes.
-fn put_header(f: Fields, out: &mut [u8])
-    requires { ⌜ LawfulFields f × (headerBytes f ≤ count (now out)) ⌝ }
+// The size and Mode 1's control byte.
+fn put_single(f: Fields, out: &mut [u8])
+    requires { ⌜ LawfulFields f × ((f .mode1 ≡ true) × (headerBytes f ≤ count (now out))) ⌝ }
+    ensures { λ _. ⌜ now (out .exit) ≡ put (now (out .entry)) 0 (headerOf f) ⌝ }
+{
+    let control = f.slen * 16 + (bit_of(f.cs) * 8 + f.clen);
+    out[0] = f.n as u8;
+    out[1] = control as u8;
+}
+
+// The size and Mode 2's control bytes.
+fn put_double(f: Fields, out: &mut [u8])
+    requires { ⌜ LawfulFields f × ((f .mode1 ≡ false) × (headerBytes f ≤ count (now out))) ⌝ }
     ensures { λ _. ⌜ now (out .exit) ≡ put (now (out .entry)) 0 (headerOf f) ⌝ }
 {
     let coefficients = 128 + (bit_of(f.cs) * 32 + (bit_of(f.cf) * 16 + f.clen));
@@ -52,6 +62,18 @@ fn put_header(f: Fields, out: &mut [u8])
     out[0] = f.n as u8;
     out[1] = coefficients as u8;
     out[2] = deviations as u8;
+}
+
+// The size and the control bytes.
+fn put_header(f: Fields, out: &mut [u8])
+    requires { ⌜ LawfulFields f × (headerBytes f ≤ count (now out)) ⌝ }
+    ensures { λ _. ⌜ now (out .exit) ≡ put (now (out .entry)) 0 (headerOf f) ⌝ }
+{
+    if f.mode1 {
+        put_single(f, out);
+        return;
+    }
+    put_double(f, out);
 }
 
 // The mark of a pair, 0 where there are no more.

@@ -2,6 +2,7 @@
 // ("s HEX", "m HEX": on every beginning too); "A HEX COUNT INDEX ..": an array pack of these bytes and so many of 0, read and addressed.
 // "U HEX D C M" a matrix pack unpacked into lists of these lengths, "E HEX W M" expanded, "C HEX" its scaled coefficients.
 // "R HEX" a matrix pack and "Q HEX" an array pack, read and written again. "W HEX" writes the matrix and "X HEX" the array that these bytes give.
+// A star in place of the space states mapped deviations for Mode 1, a space IEEE ones.
 ghost use Prim.Native.Nat.{_≤_};
 use libc::STDIN_FILENO;
 use libc::STDOUT_FILENO;
@@ -102,28 +103,44 @@ fn zeros(kind: usize, given: Given) -> usize
     0
 }
 
-// What a row of this kind gives; its text is said before.
-fn say_row(kind: usize, bytes: &[u8], given: Given) {
+// What a row of this kind gives under a stated format; its text is said before.
+fn say_row(kind: usize, format: usize, bytes: &[u8], given: Given) {
     match kind {
         65 => reads::address_row(bytes, given),
-        67 => reads::scale_row(bytes),
-        69 => reads::expand_row(bytes, given),
-        85 => reads::unpack_row(bytes, given),
-        87 => writes::matrix_row(bytes),
+        67 => reads::scale_row(format, bytes),
+        69 => reads::expand_row(format, bytes, given),
+        85 => reads::unpack_row(format, bytes, given),
+        87 => writes::matrix_row(format, bytes),
         88 => writes::array_row(bytes),
-        _ => say::say_answer(reads::verdict_on(kind, bytes)),
+        _ => say::say_answer(reads::verdict_on(kind, format, bytes)),
     }
 }
 
 // The text of a row is said too, but not of what is written again.
-fn texted_row(kind: usize, text: &[u8], bytes: &[u8], given: Given) {
+fn texted_row(kind: usize, format: usize, text: &[u8], bytes: &[u8], given: Given) {
     if kind > 90 {
-        reads::beginnings(kind, bytes);
+        reads::beginnings(kind, format, bytes);
     }
     io::write_all(STDOUT_FILENO, text);
     say::put(32);
-    say_row(kind, bytes, given);
+    say_row(kind, format, bytes, given);
     say::put(10);
+}
+
+// The format that a row states: 1 for a star, else 0.
+fn format_in(text: &[u8]) -> usize {
+    if byte_at(text, 1) == 42 {
+        return 1;
+    }
+    0
+}
+
+// A pack that is written again: its letter, with its star.
+fn say_letter(kind: u8, format: usize) {
+    say::put(kind);
+    if format == 1 {
+        say::put(42);
+    }
 }
 
 // A row whose text spells so many bytes; those behind them are 0.
@@ -132,22 +149,23 @@ fn row_of(text: &[u8], bytes: &[u8; 65536], n: usize)
 {
     let all = &bytes[..];
     let kind = byte_at(text, 0);
+    let format = format_in(text);
     if kind == 81 {
-        say::put(81);
-        writes::again_row(kind, &all[0..n]);
+        say_letter(81, format);
+        writes::again_row(kind, format, &all[0..n]);
         return;
     }
     if kind == 82 {
-        say::put(82);
-        writes::again_row(kind, &all[0..n]);
+        say_letter(82, format);
+        writes::again_row(kind, format, &all[0..n]);
         return;
     }
     let given = given_in(text, 2 + 2 * n);
     let end = lesser(n + zeros(kind, given), 65536);
-    texted_row(kind, text, &all[0..end], given);
+    texted_row(kind, format, text, &all[0..end], given);
 }
 
-// A row: its letter, a space, its bytes, its numbers.
+// A row: its letter, a space or a star, its bytes, its numbers.
 fn row(text: &[u8]) {
     let mut bytes = [0u8; 65536];
     let n = decode(text, &mut bytes);

@@ -20,19 +20,19 @@ use rule::scaled::scale;
 use verdict::lesser;
 use word::bytes::byte_at;
 
-// The verdict on bytes as a pack of a row's kind.
-pub(crate) fn verdict_on(kind: usize, bytes: &[u8]) -> u64 {
+// The verdict on bytes as a pack of a row's kind, under a stated format.
+pub(crate) fn verdict_on(kind: usize, format: usize, bytes: &[u8]) -> u64 {
     if (kind == 77) | (kind == 109) {
         return carray::array_verdict(bytes);
     }
-    cmatrix::matrix_verdict(bytes)
+    cmatrix::matrix_verdict(bytes, format)
 }
 
 // Every beginning of the bytes, by its count.
-pub(crate) fn beginnings(kind: usize, bytes: &[u8]) {
+pub(crate) fn beginnings(kind: usize, format: usize, bytes: &[u8]) {
     let mut k = 0;
     while k < bytes.len() {
-        say_begun(k, verdict_on(kind, &bytes[0..k]));
+        say_begun(k, verdict_on(kind, format, &bytes[0..k]));
         k += 1;
     }
 }
@@ -111,7 +111,7 @@ fn say_unpacked(n: usize, deviations: &[u64; 72], coefficients: &[u64; 2032], ma
     say_kept(kept_words(ds, n) & kept_words(cs, m) & kept_bytes(ms, m));
 }
 
-pub(crate) fn unpack_row(bytes: &[u8], given: Given) {
+pub(crate) fn unpack_row(format: usize, bytes: &[u8], given: Given) {
     let mut deviations = [CANARY; 72];
     let mut coefficients = [CANARY; 2032];
     let mut marks = [CANARY_BYTE; 2032];
@@ -121,6 +121,7 @@ pub(crate) fn unpack_row(bytes: &[u8], given: Given) {
     let m = lesser(values[2], 2030);
     let answer = cmatrix::matrix_unpack(
         bytes,
+        format,
         &mut deviations[1..1 + d],
         &mut coefficients[1..1 + c],
         &mut marks[1..1 + m],
@@ -149,13 +150,13 @@ fn say_expanded(n: usize, words: &[u64; 4112], marks: &[u8; 4112])
     say_kept(kept_words(ws, count) & kept_bytes(ms, count));
 }
 
-pub(crate) fn expand_row(bytes: &[u8], given: Given) {
+pub(crate) fn expand_row(format: usize, bytes: &[u8], given: Given) {
     let mut words = [CANARY; 4112];
     let mut marks = [CANARY_BYTE; 4112];
     let values = given.values;
     let w = lesser(values[0], 4110);
     let m = lesser(values[1], 4110);
-    let answer = cmatrix::matrix_expand(bytes, &mut words[1..1 + w], &mut marks[1..1 + m]);
+    let answer = cmatrix::matrix_expand(bytes, format, &mut words[1..1 + w], &mut marks[1..1 + m]);
     say_expanded(filled(answer, bytes), &words, &marks);
 }
 
@@ -205,13 +206,19 @@ fn say_scaled_words(list: &[u64; 2016], count: usize, length: usize)
     say_unit(length);
 }
 
-pub(crate) fn scale_row(bytes: &[u8]) {
+pub(crate) fn scale_row(format: usize, bytes: &[u8]) {
+    let mut fields = [0usize; 7];
     let mut deviations = [0u64; 64];
     let mut coefficients = [0u64; 2016];
     let mut marks = [0u8; 2016];
-    let answer = cmatrix::matrix_unpack(bytes, &mut deviations, &mut coefficients, &mut marks);
+    let answer = cmatrix::matrix_unpack(
+        bytes,
+        format,
+        &mut deviations,
+        &mut coefficients,
+        &mut marks,
+    );
     let m = pairs_of(filled(answer, bytes));
-    if bytes.len() > 1 {
-        say_scaled_words(&coefficients, m, byte_at(bytes, 1) % 16);
-    }
+    cmatrix::matrix_fields(bytes, format, &mut fields);
+    say_scaled_words(&coefficients, m, fields[3]);
 }

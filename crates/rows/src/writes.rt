@@ -40,18 +40,25 @@ fn right(answer: u64, buffer: &[u8; 33024], bytes: &[u8], room: usize) -> bool {
 }
 
 // Whether a matrix pack, read and unpacked, is written as it was.
-fn matrix_again(bytes: &[u8], room: usize) -> bool
+fn matrix_again(format: usize, bytes: &[u8], room: usize) -> bool
     requires { ⌜ room ≤ 33000 ⌝ }
 {
-    let mut fields = [0usize; 6];
+    let mut fields = [0usize; 7];
     let mut deviations = [0u64; 64];
     let mut coefficients = [0u64; 2016];
     let mut marks = [0u8; 2016];
     let mut out = [CANARY_BYTE; 33024];
-    cmatrix::matrix_fields(bytes, &mut fields);
-    cmatrix::matrix_unpack(bytes, &mut deviations, &mut coefficients, &mut marks);
+    cmatrix::matrix_fields(bytes, format, &mut fields);
+    cmatrix::matrix_unpack(
+        bytes,
+        format,
+        &mut deviations,
+        &mut coefficients,
+        &mut marks,
+    );
     let answer = cmatrix::matrix_write(
         &fields,
+        format,
         &deviations,
         &coefficients,
         &marks,
@@ -79,17 +86,17 @@ fn array_again(bytes: &[u8], room: usize) -> bool
     right(answer, &out, bytes, room)
 }
 
-fn again(kind: usize, bytes: &[u8], room: usize) -> bool
+fn again(kind: usize, format: usize, bytes: &[u8], room: usize) -> bool
     requires { ⌜ room ≤ 33000 ⌝ }
 {
     if kind == 82 {
-        return matrix_again(bytes, room);
+        return matrix_again(format, bytes, room);
     }
     array_again(bytes, room)
 }
 
 // Whether a pack of 1 to 32,900 bytes is written as it was into room that is exact, one byte short and longer.
-fn same(kind: usize, bytes: &[u8]) -> bool {
+fn same(kind: usize, format: usize, bytes: &[u8]) -> bool {
     let count = bytes.len();
     if count == 0 {
         return false;
@@ -97,7 +104,8 @@ fn same(kind: usize, bytes: &[u8]) -> bool {
     if count > 32900 {
         return false;
     }
-    again(kind, bytes, count) & (again(kind, bytes, count - 1) & again(kind, bytes, count + 9))
+    again(kind, format, bytes, count)
+        & (again(kind, format, bytes, count - 1) & again(kind, format, bytes, count + 9))
 }
 
 fn say_same(same: bool) {
@@ -109,9 +117,9 @@ fn say_same(same: bool) {
 }
 
 // The bytes are not said again.
-pub(crate) fn again_row(kind: usize, bytes: &[u8]) {
+pub(crate) fn again_row(kind: usize, format: usize, bytes: &[u8]) {
     say_next(bytes.len() as u64);
-    say_same(same(kind, bytes));
+    say_same(same(kind, format, bytes));
 }
 
 // The answer, the first bytes written, and whether all others are as they were.
@@ -150,7 +158,7 @@ fn words_in(bytes: &[u8], from: usize) -> [u64; 64]
     list
 }
 
-fn fields_in(bytes: &[u8]) -> [usize; 6] {
+fn fields_in(bytes: &[u8]) -> [usize; 7] {
     [
         byte_at(bytes, 0),
         byte_at(bytes, 1),
@@ -158,20 +166,22 @@ fn fields_in(bytes: &[u8]) -> [usize; 6] {
         byte_at(bytes, 3),
         byte_at(bytes, 4),
         byte_at(bytes, 5),
+        byte_at(bytes, 6),
     ]
 }
 
 // So many deviations and coefficients stand in the bytes, before the marks.
-fn matrix_of(bytes: &[u8], d: usize, c: usize, marks: &[u8])
+fn matrix_of(format: usize, bytes: &[u8], d: usize, c: usize, marks: &[u8])
     requires { ⌜ (d ≤ 64) × (c ≤ 64) ⌝ }
 {
     let mut out = [CANARY_BYTE; 33024];
     let fields = fields_in(bytes);
-    let deviations = words_in(bytes, 10);
-    let coefficients = words_in(bytes, 10 + 8 * d);
-    let room = byte_at(bytes, 6);
+    let deviations = words_in(bytes, 11);
+    let coefficients = words_in(bytes, 11 + 8 * d);
+    let room = byte_at(bytes, 7);
     let answer = cmatrix::matrix_write(
         &fields,
+        format,
         &deviations[0..d],
         &coefficients[0..c],
         marks,
@@ -180,16 +190,16 @@ fn matrix_of(bytes: &[u8], d: usize, c: usize, marks: &[u8])
     say_written(answer, &out);
 }
 
-// A byte each: N, Cs, Cf, Clen, Sf, Slen, the room, how many deviations, coefficients and marks; then these, a mark being a byte.
-pub(crate) fn matrix_row(bytes: &[u8]) {
-    let d = lesser(byte_at(bytes, 7), 64);
-    let c = lesser(byte_at(bytes, 8), 64);
-    let behind = 10 + 8 * (d + c);
-    let end = behind + byte_at(bytes, 9);
+// A byte each: N, Cs, Cf, Clen, Sf, Slen, the mode, the room, how many deviations, coefficients and marks; then these, a mark being a byte.
+pub(crate) fn matrix_row(format: usize, bytes: &[u8]) {
+    let d = lesser(byte_at(bytes, 8), 64);
+    let c = lesser(byte_at(bytes, 9), 64);
+    let behind = 11 + 8 * (d + c);
+    let end = behind + byte_at(bytes, 10);
     if bytes.len() < end {
         return;
     }
-    matrix_of(bytes, d, c, &bytes[behind..end]);
+    matrix_of(format, bytes, d, c, &bytes[behind..end]);
 }
 
 // The numbers behind the first byte.

@@ -1,6 +1,7 @@
 -- `OK` is answered exactly for the frames. Assumes nothing.
 use Prim.Native.Nat.{ℕ, _+_, _≤_}
 use mathlib.Core.Path.{_≡_, refl, sym, ap, _∙_, subst}
+use mathlib.Core.Bool.{false}
 use mathlib.Core.Logic.{_↔_}
 use mathlib.Core.List.{List, [], _++_, append-nil}
 use native.Mathlib.Omega.{arith}
@@ -15,6 +16,7 @@ use Rattle.verdict.specs.declared.Verdict.the-variants.{Complete, Unfinished, R
 use Rattle.verdict.specs.Says.{Bytes, CompleteAt, Says}
 use Rattle.verdict.proofs.Cases.{by-test}
 use Rattle.word.proofs.Digits.{below-drop}
+use Rattle.matrix.specs.Meaning.{stating}
 use Rattle.matrix.specs.Pack.{MatrixPack}
 use Rattle.matrix.specs.Table.{Why as MatrixWhy}
 use Rattle.matrix.specs.Machine.{verdictOf as matrixVerdict}
@@ -91,7 +93,7 @@ module _ (w value : List ℕ) (bytes : Bytes value) where
       subst (λ (k : Kind). FrameOf k n w) (ap (λ (a : FrameAnswer). a .kind) e) (record { frame = record { pack = value; whole = whole; spelled = parts }; count = sym (verdict .1) })
 
   value-means : (found : Kind) → w ≡ keyOf found ++ (shortest (length value) ++ value) → Means w (valueAnswer found value)
-  value-means Matrix parts = pack-means Matrix (matrixVerdict value) (λ n e. subst (Says MatrixPack MatrixWhy value) e (matrix-said value bytes)) parts
+  value-means Matrix parts = pack-means Matrix (matrixVerdict (stating false) value) (λ n e. subst (Says (MatrixPack (stating false)) (MatrixWhy (stating false)) value) e (matrix-said (stating false) value bytes)) parts
   value-means Array parts = pack-means Array (arrayVerdict value) (λ n e. subst (Says ArrayPack ArrayWhy value) e (array-said value bytes)) parts
   value-means Unknown parts = refused-means w Unknown UnknownKey
 
@@ -137,12 +139,12 @@ module _ (w : List ℕ) (b : Bytes w) where
 
 -- a whole value
 value-okay : (kind : Kind) (pack : List ℕ) → PackOf kind pack → valueAnswer kind pack ≡ okay kind (length pack)
-value-okay Matrix pack p = let v : matrixVerdict pack ≡ Complete (length pack) = ap matrixVerdict (sym (append-nil pack)) ∙ matrix-complete pack [] p in rw (v, eq-eqb (length pack) (length pack) refl)
+value-okay Matrix pack p = let v : matrixVerdict (stating false) pack ≡ Complete (length pack) = ap (matrixVerdict (stating false)) (sym (append-nil pack)) ∙ matrix-complete (stating false) pack [] p in rw (v, eq-eqb (length pack) (length pack) refl)
 value-okay Array pack p = let v : arrayVerdict pack ≡ Complete (length pack) = ap arrayVerdict (sym (append-nil pack)) ∙ array-complete pack [] p in rw (v, eq-eqb (length pack) (length pack) refl)
 value-okay Unknown pack p = absurd p
 
 pack-short : (kind : Kind) (pack : List ℕ) → PackOf kind pack → length pack ≤ 32797
-pack-short Matrix pack p = omega (arith, matrix-short pack p)
+pack-short Matrix pack p = omega (arith, matrix-short (stating false) pack p)
 pack-short Array pack p = array-short pack p
 pack-short Unknown pack p = absurd p
 

@@ -1,4 +1,5 @@
 pub mod MatrixVerdicts
+pub mod Modes
 pub mod Said
 pub mod Framed
 pub mod Frames

@@ -18,7 +18,8 @@ use Rattle.verdict.proofs.Deciding.{kept-both, both-kept, written-complete, kep
 use Rattle.verdict.proofs.Judging.{Kept}
 use Rattle.rule.specs.Rules.{Keeps, deviationRule}
 use Rattle.matrix.specs.declared.Fields.{Fields}
-use Rattle.matrix.specs.Meaning.{Matrix, pairs, nought, Lawful, LawfulValues}
+use Rattle.matrix.specs.declared.Told.{Told}
+use Rattle.matrix.specs.Meaning.{Matrix, pairs, nought, Lawful, LawfulValues, stating, Fits}
 use Rattle.matrix.specs.Spelling.{bytesOf, meaningOf}
 use Rattle.matrix.specs.Machine.{verdictOf}
 use Rattle.theorems.proofs.MatrixVerdicts.{matrix-complete}
@@ -32,36 +33,40 @@ use Rattle.matrixcheck.specs.Checking.{Enough}
 use Rattle.matrixcheck.proofs.Entries.{length-sent, sent-at}
 use Rattle.matrixcheck.proofs.Given.{given-lawful, lawful-given}
 
-module _ (f : Fields) (deviations coefficients marks out : List ℕ) where
+module _ (mapped : Bool) (f : Fields) (deviations coefficients marks out : List ℕ) where
   abbrev given : Matrix
   given = meaningGiven f deviations coefficients marks
 
-  -- a writer accepts exactly what has a lawful meaning, and room
-  pub writer-accepts : Kept (writerRows f deviations coefficients marks out) ↔ (Enough f deviations coefficients marks × (Lawful given × (length (bytesOf given) ≤ length out)))
+  -- a writer accepts exactly what has a lawful meaning, in its mode's formats, and room
+  pub writer-accepts : Kept (writerRows mapped f deviations coefficients marks out) ↔ (Enough f deviations coefficients marks × (Lawful given × (Fits (stating mapped) f × (length (bytesOf given) ≤ length out))))
   writer-accepts = (
     λ k.
-        let b = both-kept (givenRows f deviations coefficients marks) (roomRows (length (bytesOf given)) (length out)) k in
-        let g = given-lawful f deviations coefficients marks (b .0) in
-        (g .0, (g .1, ltb-false (length out) (length (bytesOf given)) (b .1 .0))),
+        let b = both-kept (givenRows mapped f deviations coefficients marks) (roomRows (length (bytesOf given)) (length out)) k in
+        let g = given-lawful f deviations coefficients marks mapped (b .0) in
+        (g .0, (g .1, (g .2, ltb-false (length out) (length (bytesOf given)) (b .1 .0)))),
     λ x.
-        kept-both (givenRows f deviations coefficients marks) (roomRows (length (bytesOf given)) (length out)) (lawful-given f deviations coefficients marks (x .1 .0) (x .0)) (le-ltb (length out) (length (bytesOf given)) (x .1 .1), tt),
+        kept-both (givenRows mapped f deviations coefficients marks) (roomRows (length (bytesOf given)) (length out)) (lawful-given f deviations coefficients marks (x .1 .0) mapped (x .1 .1 .0) (x .0)) (le-ltb (length out) (length (bytesOf given)) (x .1 .1 .1), tt),
   )
 
-  -- what was written is complete at its count, and means what was given, whatever stands behind it
-  pub written-means : (n : ℕ) (out′ : List ℕ) → WrittenBy (writerRows f deviations coefficients marks out) (bytesOf given) out 0 (Complete n) out′ → (verdictOf out′ ≡ Complete n) × (meaningOf out′ ≡ given)
+  -- what was written is complete at its count, and means what was given, whatever stands behind it, to a reader that is told the same
+  pub written-means : (n : ℕ) (out′ : List ℕ) → WrittenBy (writerRows mapped f deviations coefficients marks out) (bytesOf given) out 0 (Complete n) out′
+      → (verdictOf (stating mapped) out′ ≡ Complete n) × (meaningOf (stating mapped) out′ ≡ given)
   written-means n out′ w =
-      let c = written-complete (writerRows f deviations coefficients marks out) (bytesOf given) out n out′ w in
-      let l : Lawful given = writer-accepts .0 (c .0) .1 .0 in
-      let there : verdictOf (bytesOf given ++ drop n out) ≡ Complete (length (bytesOf given)) = matrix-complete (bytesOf given) (drop n out) (record { meaning = given; lawful = l; spelled = refl }) in
-      (ap verdictOf (c .1 .1) ∙ there ∙ ap Complete (sym (c .1 .0)), ap meaningOf (c .1 .1) ∙ meaning-back given l (drop n out))
+      let told = stating mapped in
+      let c = written-complete (writerRows mapped f deviations coefficients marks out) (bytesOf given) out n out′ w in
+      let x = writer-accepts .0 (c .0) in
+      let l : Lawful given = x .1 .0 in
+      let fits : Fits told f = x .1 .1 .0 in
+      let there : verdictOf told (bytesOf given ++ drop n out) ≡ Complete (length (bytesOf given)) = matrix-complete told (bytesOf given) (drop n out) (record { meaning = given; lawful = l; fits = fits; spelled = refl }) in
+      (ap (verdictOf told) (c .1 .1) ∙ there ∙ ap Complete (sym (c .1 .0)), ap (meaningOf told) (c .1 .1) ∙ meaning-back told given l fits (drop n out))
 
   -- so unpacking it fills the lists with what was given, and with noughts for what was not sent
-  pub written-unpacked : (n : ℕ) (out′ : List ℕ) → WrittenBy (writerRows f deviations coefficients marks out) (bytesOf given) out 0 (Complete n) out′
-      → (ds cs ms : List ℕ) (answer : Verdict) (ds′ cs′ ms′ : List ℕ) → UnpackedBy out′ ds cs ms answer ds′ cs′ ms′ → UnpackedFor (Complete n) given ds cs ms answer ds′ cs′ ms′
+  pub written-unpacked : (n : ℕ) (out′ : List ℕ) → WrittenBy (writerRows mapped f deviations coefficients marks out) (bytesOf given) out 0 (Complete n) out′
+      → (ds cs ms : List ℕ) (answer : Verdict) (ds′ cs′ ms′ : List ℕ) → UnpackedBy (stating mapped) out′ ds cs ms answer ds′ cs′ ms′ → UnpackedFor (Complete n) given ds cs ms answer ds′ cs′ ms′
   written-unpacked n out′ w ds cs ms answer ds′ cs′ ms′ u =
       let e = written-means n out′ w in
       subst (λ (v : Verdict). UnpackedFor v given ds cs ms answer ds′ cs′ ms′) (e .0)
-      (subst (λ (m : Matrix). UnpackedFor (verdictOf out′) m ds cs ms answer ds′ cs′ ms′) (e .1) u)
+      (subst (λ (m : Matrix). UnpackedFor (verdictOf (stating mapped) out′) m ds cs ms answer ds′ cs′ ms′) (e .1) u)
 
 -- ---- a lawful meaning is what its own values mean, whatever stands behind them in the lists
 
@@ -130,12 +135,12 @@ module _ (m : Matrix) (l : Lawful m) (behind-deviations behind-coefficients behi
       }
 
   -- its writer writes its bytes
-  pub written-again : (out : List ℕ) (answer : Verdict) (out′ : List ℕ) → length (bytesOf m) ≤ length out → WrittenBy (writerRows f ds cs ms out) (bytesOf (meaningGiven f ds cs ms)) out 0 answer out′
+  pub written-again : (mapped : Bool) → Fits (stating mapped) f → (out : List ℕ) (answer : Verdict) (out′ : List ℕ) → length (bytesOf m) ≤ length out → WrittenBy (writerRows mapped f ds cs ms out) (bytesOf (meaningGiven f ds cs ms)) out 0 answer out′
       → (answer ≡ Complete (length (bytesOf m))) × (out′ ≡ bytesOf m ++ drop (length (bytesOf m)) out)
-  written-again out answer out′ room w =
-      let k = writer-accepts f ds cs ms out .1 (enough-again, (subst Lawful (sym meaning-again) l, subst (λ (q : Matrix). length (bytesOf q) ≤ length out) (sym meaning-again) room)) in
+  written-again mapped fits out answer out′ room w =
+      let k = writer-accepts mapped f ds cs ms out .1 (enough-again, (subst Lawful (sym meaning-again) l, (fits, subst (λ (q : Matrix). length (bytesOf q) ≤ length out) (sym meaning-again) room))) in
       subst (λ (q : Matrix). (answer ≡ Complete (length (bytesOf q))) × (out′ ≡ bytesOf q ++ drop (length (bytesOf q)) out)) meaning-again
-      (kept-written (writerRows f ds cs ms out) (bytesOf (meaningGiven f ds cs ms)) out answer out′ k w)
+      (kept-written (writerRows mapped f ds cs ms out) (bytesOf (meaningGiven f ds cs ms)) out answer out′ k w)
 
 -- ---- bytes that are read, unpacked and written
 
@@ -146,23 +151,31 @@ said-complete (Complete k) false n e = e
 said-complete (Unfinished k) short n e = let z : _≡_ {A = ℕ} 0 1 = cc in absurd (omega arith)
 said-complete (Refused r) short n e = let z : _≡_ {A = ℕ} 0 1 = cc in absurd (omega arith)
 
--- writing the fields and the unpacked lists of bytes gives the same bytes
-pub unpacked-written : (bytes xs ys zs xs′ ys′ zs′ : List ℕ) (n : ℕ) → Bytes bytes → UnpackedBy bytes xs ys zs (Complete n) xs′ ys′ zs′
-    → (out : List ℕ) (answer : Verdict) (out′ : List ℕ) → n ≤ length out → WrittenBy (writerRows (meaningOf bytes .fields) xs′ ys′ zs′ out) (bytesOf (meaningGiven (meaningOf bytes .fields) xs′ ys′ zs′)) out 0 answer out′
+-- what fits under what was told fits where its format is stated
+told-stating : (told : Told) (f : Fields) → Fits told f → Fits (stating (told .mapped)) f
+told-stating told f fits one =
+    let m = fits one in
+    record { let-in = refl; coefficient-format = m .coefficient-format; deviation-format = m .deviation-format; coefficient-room = m .coefficient-room; deviation-room = m .deviation-room }
+
+-- writing the fields and the unpacked lists of bytes, with the format that was told, gives the same bytes
+pub unpacked-written : (told : Told) (bytes xs ys zs xs′ ys′ zs′ : List ℕ) (n : ℕ) → Bytes bytes → UnpackedBy told bytes xs ys zs (Complete n) xs′ ys′ zs′
+    → (out : List ℕ) (answer : Verdict) (out′ : List ℕ) → n ≤ length out → WrittenBy (writerRows (told .mapped) (meaningOf told bytes .fields) xs′ ys′ zs′ out) (bytesOf (meaningGiven (meaningOf told bytes .fields) xs′ ys′ zs′)) out 0 answer out′
     → (answer ≡ Complete n) × (out′ ≡ take n bytes ++ drop n out)
-unpacked-written bytes xs ys zs xs′ ys′ zs′ n b u out answer out′ room w =
-    let m = meaningOf bytes in
+unpacked-written told bytes xs ys zs xs′ ys′ zs′ n b u out answer out′ room w =
+    let m = meaningOf told bytes in
+    let rows = writerRows (told .mapped) (m .fields) in
     let short = unpackShort (m .fields .n) xs ys zs in
-    let said : saidFor (verdictOf bytes) short ≡ Complete n = sym (u .said) in
-    let whole : verdictOf bytes ≡ Complete n = said-complete (verdictOf bytes) short n said in
-    let c = complete-meaning bytes b n whole in
-    let counted : length (bytesOf m) ≡ n = complete-count bytes b n whole in
+    let said : saidFor (verdictOf told bytes) short ≡ Complete n = sym (u .said) in
+    let whole : verdictOf told bytes ≡ Complete n = said-complete (verdictOf told bytes) short n said in
+    let c = complete-meaning told bytes b n whole in
+    let counted : length (bytesOf m) ≡ n = complete-count told bytes b n whole in
     let d : xs′ ≡ over (m .deviations) xs = u .left-deviations ∙ ap (λ (v : Verdict). leftFor v (m .deviations) xs) said in
     let e : ys′ ≡ over (m .coefficients) ys = u .left-coefficients ∙ ap (λ (v : Verdict). leftFor v (m .coefficients) ys) said in
     let k : zs′ ≡ over (m .marks) zs = u .left-marks ∙ ap (λ (v : Verdict). leftFor v (m .marks) zs) said in
-    let same : WrittenBy (writerRows (m .fields) (over (m .deviations) xs) (over (m .coefficients) ys) (over (m .marks) zs) out) (bytesOf (meaningGiven (m .fields) (over (m .deviations) xs) (over (m .coefficients) ys) (over (m .marks) zs))) out 0 answer out′ =
-    subst (λ (x : List ℕ). WrittenBy (writerRows (m .fields) x (over (m .coefficients) ys) (over (m .marks) zs) out) (bytesOf (meaningGiven (m .fields) x (over (m .coefficients) ys) (over (m .marks) zs))) out 0 answer out′) d
-    (subst (λ (x : List ℕ). WrittenBy (writerRows (m .fields) xs′ x (over (m .marks) zs) out) (bytesOf (meaningGiven (m .fields) xs′ x (over (m .marks) zs))) out 0 answer out′) e
-    (subst (λ (x : List ℕ). WrittenBy (writerRows (m .fields) xs′ ys′ x out) (bytesOf (meaningGiven (m .fields) xs′ ys′ x)) out 0 answer out′) k w)) in
-    let r = written-again m (c .0) (drop (length (m .deviations)) xs) (drop (length (m .coefficients)) ys) (drop (length (m .marks)) zs) out answer out′ (omega arith) same in
-    (r .0 ∙ ap Complete counted, r .1 ∙ ap (λ (k : ℕ). bytesOf m ++ drop k out) counted ∙ ap (λ (w : List ℕ). w ++ drop n out) (c .1))
+    let same : WrittenBy (rows (over (m .deviations) xs) (over (m .coefficients) ys) (over (m .marks) zs) out) (bytesOf (meaningGiven (m .fields) (over (m .deviations) xs) (over (m .coefficients) ys) (over (m .marks) zs))) out 0 answer out′ =
+    subst (λ (x : List ℕ). WrittenBy (rows x (over (m .coefficients) ys) (over (m .marks) zs) out) (bytesOf (meaningGiven (m .fields) x (over (m .coefficients) ys) (over (m .marks) zs))) out 0 answer out′) d
+    (subst (λ (x : List ℕ). WrittenBy (rows xs′ x (over (m .marks) zs) out) (bytesOf (meaningGiven (m .fields) xs′ x (over (m .marks) zs))) out 0 answer out′) e
+    (subst (λ (x : List ℕ). WrittenBy (rows xs′ ys′ x out) (bytesOf (meaningGiven (m .fields) xs′ ys′ x)) out 0 answer out′) k w)) in
+    let r =
+    written-again m (c .0) (drop (length (m .deviations)) xs) (drop (length (m .coefficients)) ys) (drop (length (m .marks)) zs) (told .mapped) (told-stating told (m .fields) (c .1)) out answer out′ (omega arith) same in
+    (r .0 ∙ ap Complete counted, r .1 ∙ ap (λ (k : ℕ). bytesOf m ++ drop k out) counted ∙ ap (λ (w : List ℕ). w ++ drop n out) (c .2))

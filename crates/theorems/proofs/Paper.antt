@@ -9,10 +9,11 @@ use contract.Lifetimes.{Lfts}
 use borrow.Fn.Kinds.{Dens, resT, endedOf}
 use denote.Triple.Clauses.{AtExit}
 use denote.Ref.{now}
+use lib.Dec.{eqb, ltb}
 use lib.ListN.{length, take, length-append}
 use lib.Seq.{length-take-le}
 use Rattle.verdict.specs.declared.Reason.{Reason}
-use Rattle.verdict.specs.declared.Reason.the-variants.{Index}
+use Rattle.verdict.specs.declared.Reason.the-variants.{Index, Disagree}
 use Rattle.verdict.specs.declared.Verdict.{Verdict}
 use Rattle.verdict.specs.declared.Verdict.the-variants.{Complete, Unfinished, Refused}
 use Rattle.verdict.specs.Says.{Bytes, Says}
@@ -23,6 +24,7 @@ use Rattle.verdict.proofs.Cases.{by-test}
 use Rattle.verdict.proofs.Judging.{Kept}
 use Rattle.verdict.proofs.Deciding.{both-kept}
 use Rattle.verdict.proofs.Numbered.{packed-is-paper}
+use Rattle.matrix.specs.Meaning.{stating}
 use Rattle.matrix.specs.Spelling.{bytesOf as matrixBytes}
 use Rattle.matrix.specs.Machine.{verdictOf as matrixVerdict}
 use Rattle.theorems.proofs.MatrixVerdicts.{matrix-said}
@@ -39,7 +41,6 @@ use Rattle.array.proofs.Offsets.{offset-below}
 use Rattle.arrayreader.specs.declared.Addressed.{Addressed}
 use Rattle.arrayreader.specs.declared.Addressed.the-variants.{Offset, Refused as AddressedRefused}
 use Rattle.arrayreader.specs.Reading.{addressFor}
-use Rattle.unpack.specs.Unpacking.{UnpackedBy, ExpandedBy}
 use Rattle.verdict.specs.Lent.{saidFor}
 use Rattle.matrixcheck.specs.Given.{meaningGiven as matrixGiven}
 use Rattle.matrixwriter.specs.Writing.{writerRows as matrixRows}
@@ -48,6 +49,7 @@ use Rattle.arraywriter.specs.Given.{meaningGiven as arrayGiven}
 use Rattle.theorems.proofs.ArrayRoundTrip.{writer-accepts as array-accepts}
 use Rattle.theorems.specs.Paper.{PaperBy}
 use Rattle.listing.specs.Packed.{PackedBy}
+use Rattle.cmatrix.specs.Format.{toldBy, verdictBy, UnpackedUnder, ExpandedUnder}
 use Rattle.cmatrix.specs.Fields.{FieldsBy}
 use Rattle.cmatrix.specs.Writing.{fieldsGiven, numberRows, MatrixWritten}
 use Rattle.carray.specs.Addressed.{addressed, addressedOf}
@@ -86,8 +88,10 @@ said-occurs Pack Why short bytes (Unfinished m) s = omega (arith, short _ (s .fi
 said-occurs Pack Why short bytes (Refused r) s =
     omega (arith, short _ (s .before), length-append (take (r .place) bytes) (s .ending), length-take-le (r .place) bytes (omega (arith, s .within)))
 
-matrix-occurs : (bytes : List ℕ) → Bytes bytes → Occurs (matrixVerdict bytes)
-matrix-occurs bytes b = said-occurs _ _ (λ w p. omega (arith, matrix-short w p)) bytes (matrixVerdict bytes) (matrix-said bytes b)
+matrix-occurs : (format : ℕ) (bytes : List ℕ) → Bytes bytes → Occurs (verdictBy format bytes)
+matrix-occurs format bytes b =
+    let told = toldBy format in
+    by-test Occurs (ltb 1 format) (refusing Disagree) (matrixVerdict told bytes) (λ e. omega arith) (λ e. said-occurs _ _ (λ w p. omega (arith, matrix-short told w p)) bytes (matrixVerdict told bytes) (matrix-said told bytes b))
 
 array-occurs : (bytes : List ℕ) → Bytes bytes → Occurs (arrayVerdict bytes)
 array-occurs bytes b = said-occurs _ _ (λ w p. omega (arith, array-short w p)) bytes (arrayVerdict bytes) (array-said bytes b)
@@ -119,9 +123,9 @@ address-occurs bytes indices b (Refused refusal) e h = h
 -- ---- of each call
 
 pub matrix-verdict-paper : (κs : Lfts 1) (a : Dens κs matrix-verdict.ps) (number : resT matrix-verdict.r κs .Denot) (s : AtExit (endedOf 1 matrix-verdict.ps matrix-verdict.r) κs) → Bytes (now (a .0))
-    → matrix-verdict-reads.Post κs a number s → PaperBy (λ answer. answer ≡ matrixVerdict (now (a .0))) number
+    → matrix-verdict-reads.Post κs a number s → PaperBy (λ answer. answer ≡ verdictBy (a .1 .0) (now (a .0))) number
 matrix-verdict-paper κs a number s b post =
-    paper-by _ number (record { answer = matrixVerdict (now (a .0)); given = refl; packed = post }) (λ answer e. subst Occurs (sym e) (matrix-occurs (now (a .0)) b))
+    paper-by _ number (record { answer = verdictBy (a .1 .0) (now (a .0)); given = refl; packed = post }) (λ answer e. subst Occurs (sym e) (matrix-occurs (a .1 .0) (now (a .0)) b))
 
 pub array-verdict-paper : (κs : Lfts 1) (a : Dens κs array-verdict.ps) (number : resT array-verdict.r κs .Denot) (s : AtExit (endedOf 1 array-verdict.ps array-verdict.r) κs) → Bytes (now (a .0))
     → array-verdict-reads.Post κs a number s → PaperBy (λ answer. answer ≡ arrayVerdict (now (a .0))) number
@@ -137,8 +141,8 @@ array-address-paper κs a number s b post =
     (λ answer e. subst Occurs (sym e) (address-occurs bytes indices b (arrayVerdict bytes) refl (array-occurs bytes b)))
 
 pub matrix-fields-paper : (κs : Lfts 2) (a : Dens κs matrix-fields.ps) (number : resT matrix-fields.r κs .Denot) (s : AtExit (endedOf 2 matrix-fields.ps matrix-fields.r) κs) → Bytes (now (a .0))
-    → matrix-fields-reads.Post κs a number s → PaperBy (λ answer. FieldsBy (now (a .0)) (now (a .1 .0)) answer (now (s .1 .0))) number
-matrix-fields-paper κs a number s b post = paper-by _ number post (λ answer m. subst Occurs (sym (m .said)) (room-occurs (matrixVerdict (now (a .0))) _ (matrix-occurs (now (a .0)) b)))
+    → matrix-fields-reads.Post κs a number s → PaperBy (λ answer. FieldsBy (a .1 .0) (now (a .0)) (now (a .1 .1 .0)) answer (now (s .1 .1 .0))) number
+matrix-fields-paper κs a number s b post = paper-by _ number post (λ answer m. subst Occurs (sym (m .said)) (room-occurs (verdictBy (a .1 .0) (now (a .0))) _ (matrix-occurs (a .1 .0) (now (a .0)) b)))
 
 pub array-fields-paper : (κs : Lfts 2) (a : Dens κs array-fields.ps) (number : resT array-fields.r κs .Denot) (s : AtExit (endedOf 2 array-fields.ps array-fields.r) κs) → Bytes (now (a .0))
     → array-fields-reads.Post κs a number s → PaperBy (λ answer. NumbersBy (now (a .0)) (now (a .1 .0)) answer (now (s .1 .0))) number
@@ -146,29 +150,31 @@ array-fields-paper κs a number s b post = paper-by _ number post (λ answer m. 
 
 pub matrix-unpack-paper : (κs : Lfts 4) (a : Dens κs matrix-unpack.ps) (number : resT matrix-unpack.r κs .Denot) (s : AtExit (endedOf 4 matrix-unpack.ps matrix-unpack.r) κs) → Bytes (now (a .0))
     → matrix-unpack-reads.Post κs a number s
-    → PaperBy (λ answer. UnpackedBy (now (a .0)) (now (a .1 .0)) (now (a .1 .1 .0)) (now (a .1 .1 .1 .0)) answer (now (s .1 .0)) (now (s .1 .1 .0)) (now (s .1 .1 .1 .0))) number
-matrix-unpack-paper κs a number s b post = paper-by _ number post (λ answer m. subst Occurs (sym (m .said)) (room-occurs (matrixVerdict (now (a .0))) _ (matrix-occurs (now (a .0)) b)))
+    → PaperBy (λ answer. UnpackedUnder (a .1 .0) (now (a .0)) (now (a .1 .1 .0)) (now (a .1 .1 .1 .0)) (now (a .1 .1 .1 .1 .0)) answer (now (s .1 .1 .0)) (now (s .1 .1 .1 .0)) (now (s .1 .1 .1 .1 .0))) number
+matrix-unpack-paper κs a number s b post = paper-by _ number post (λ answer m. subst Occurs (sym (m .said)) (room-occurs (verdictBy (a .1 .0) (now (a .0))) _ (matrix-occurs (a .1 .0) (now (a .0)) b)))
 
 pub matrix-expand-paper : (κs : Lfts 3) (a : Dens κs matrix-expand.ps) (number : resT matrix-expand.r κs .Denot) (s : AtExit (endedOf 3 matrix-expand.ps matrix-expand.r) κs) → Bytes (now (a .0))
-    → matrix-expand-reads.Post κs a number s → PaperBy (λ answer. ExpandedBy (now (a .0)) (now (a .1 .0)) (now (a .1 .1 .0)) answer (now (s .1 .0)) (now (s .1 .1 .0))) number
-matrix-expand-paper κs a number s b post = paper-by _ number post (λ answer m. subst Occurs (sym (m .said)) (room-occurs (matrixVerdict (now (a .0))) _ (matrix-occurs (now (a .0)) b)))
+    → matrix-expand-reads.Post κs a number s → PaperBy (λ answer. ExpandedUnder (a .1 .0) (now (a .0)) (now (a .1 .1 .0)) (now (a .1 .1 .1 .0)) answer (now (s .1 .1 .0)) (now (s .1 .1 .1 .0))) number
+matrix-expand-paper κs a number s b post = paper-by _ number post (λ answer m. subst Occurs (sym (m .said)) (room-occurs (verdictBy (a .1 .0) (now (a .0))) _ (matrix-occurs (a .1 .0) (now (a .0)) b)))
 
 pub matrix-write-paper : (κs : Lfts 5) (a : Dens κs matrix-write.ps) (number : resT matrix-write.r κs .Denot) (s : AtExit (endedOf 5 matrix-write.ps matrix-write.r) κs)
     → matrix-write-reads.Post κs a number s
-    → PaperBy (λ answer. MatrixWritten (now (a .0)) (now (a .1 .0)) (now (a .1 .1 .0)) (now (a .1 .1 .1 .0)) (now (a .1 .1 .1 .1 .0)) answer (now (s .1 .1 .1 .1 .0))) number
+    → PaperBy (λ answer. MatrixWritten (a .1 .0) (now (a .0)) (now (a .1 .1 .0)) (now (a .1 .1 .1 .0)) (now (a .1 .1 .1 .1 .0)) (now (a .1 .1 .1 .1 .1 .0)) answer (now (s .1 .1 .1 .1 .1 .0))) number
 matrix-write-paper κs a number s post =
+    let format = a .1 .0 in
+    let mapped = eqb format 1 in
     let f = fieldsGiven (now (a .0)) in
-    let ds = now (a .1 .0) in
-    let cs = now (a .1 .1 .0) in
-    let ms = now (a .1 .1 .1 .0) in
-    let out = now (a .1 .1 .1 .1 .0) in
+    let ds = now (a .1 .1 .0) in
+    let cs = now (a .1 .1 .1 .0) in
+    let ms = now (a .1 .1 .1 .1 .0) in
+    let out = now (a .1 .1 .1 .1 .1 .0) in
     let given = matrixGiven f ds cs ms in
     paper-by _ number post
     (λ answer m.
     subst Occurs (sym (m .said))
     (written-occurs _ _
-    (λ k. let g = matrix-accepts f ds cs ms out .0 (both-kept (numberRows (now (a .0))) (matrixRows f ds cs ms out) k .1) in
-    omega (arith, matrix-short (matrixBytes given) (record { meaning = given; lawful = g .1 .0; spelled = refl })))))
+    (λ k. let g = matrix-accepts mapped f ds cs ms out .0 (both-kept (numberRows format (now (a .0))) (matrixRows mapped f ds cs ms out) k .1) in
+    omega (arith, matrix-short (stating mapped) (matrixBytes given) (record { meaning = given; lawful = g .1 .0; fits = g .1 .1 .0; spelled = refl })))))
 
 pub array-write-paper : (κs : Lfts 3) (a : Dens κs array-write.ps) (number : resT array-write.r κs .Denot) (s : AtExit (endedOf 3 array-write.ps array-write.r) κs) → Bytes (now (a .1 .1 .0))
     → array-write-reads.Post κs a number s → PaperBy (λ answer. ArrayWritten (now (a .0)) (a .1 .0) (now (a .1 .1 .0)) (now (a .1 .1 .1 .0)) answer (now (s .1 .1 .1 .0))) number

@@ -17,12 +17,13 @@ use Rattle.theorems.proofs.ArrayVerdicts.{array-said, array-only}
 use Rattle.arrayreader.proofs.verdict.Kinds as array
 use Rattle.arrayreader.proofs.verdict.Reads as array-reads
 
--- what `matrixreader::verdict` answers
+-- what `matrixreader::verdict` answers, under what it is told
 pub matrix-verdict-said : (κs : Lfts 1) (a : Dens κs matrix.ps) (answer : resT matrix.r κs .Denot) (s : AtExit (endedOf 1 matrix.ps matrix.r) κs)
-    → Bytes (now (a .0)) → matrix-reads.Post κs a answer s → SaidAlone MatrixPack MatrixWhy (now (a .0)) answer
+    → Bytes (now (a .0)) → matrix-reads.Post κs a answer s → SaidAlone (MatrixPack (a .1 .0)) (MatrixWhy (a .1 .0)) (now (a .0)) answer
 matrix-verdict-said κs a answer s b post =
     let bytes = now (a .0) in
-    record { said = subst (Says MatrixPack MatrixWhy bytes) (sym post) (matrix-said bytes b); alone = λ other h. matrix-only bytes b other h ∙ sym post }
+    let told = a .1 .0 in
+    record { said = subst (Says (MatrixPack told) (MatrixWhy told) bytes) (sym post) (matrix-said told bytes b); alone = λ other h. matrix-only told bytes b other h ∙ sym post }
 
 -- what `arrayreader::verdict` answers
 pub array-verdict-said : (κs : Lfts 1) (a : Dens κs array.ps) (answer : resT array.r κs .Denot) (s : AtExit (endedOf 1 array.ps array.r) κs)

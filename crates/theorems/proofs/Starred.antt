@@ -17,10 +17,10 @@ use Rattle.matrix.specs.Machine.{enter, runBytes, verdictOf}
 use Rattle.theorems.proofs.MatrixVerdicts.{matrix-said}
 use Rattle.array.specs.Machine.{verdictOf as arrayVerdictOf}
 use Rattle.theorems.proofs.ArrayVerdicts.{array-said}
-use Rattle.theorems.specs.Rows.{Kind, matrix, array, Row, rows, SaysOf, Said}
+use Rattle.theorems.specs.Rows.{Kind, matrix, array, Row, under, doubleRows, aloneRows, singleRows, ieeeRows, mappedRows, arrayRows, rows, SaysOf, Said}
 
 abbrev verdictBy : Kind → List ℕ → Verdict
-verdictBy matrix = verdictOf
+verdictBy (matrix told) = verdictOf told
 verdictBy array = arrayVerdictOf
 
 -- whether each of some numbers is a byte
@@ -38,7 +38,7 @@ bytely-bytes (b ∷ bs) e i = at i (and-eq-true-iff (ltb b 256) (bytely bs) .0 e
 
 -- the run of each kind says its verdict
 kind-said : (kind : Kind) (bs : List ℕ) → Bytes bs → SaysOf kind bs (verdictBy kind bs)
-kind-said matrix = matrix-said
+kind-said (matrix told) = matrix-said told
 kind-said array = array-said
 
 -- where the runs say what the rows say, so do the definitions
@@ -50,5 +50,5 @@ run-said (r ∷ rs) b e = (
 )
 
 pub rows-said : Said rows
-unfolding rows run judged enter runBytes sum digits
+unfolding rows under doubleRows aloneRows singleRows ieeeRows mappedRows arrayRows run judged enter runBytes sum digits
 rows-said = run-said rows refl refl

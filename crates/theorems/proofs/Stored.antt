@@ -7,7 +7,8 @@ use lib.ListN.{length, take, replicate}
 use lib.Seq.{take-at}
 use native.Mathlib.Omega.{arith}
 use Rattle.matrix.specs.declared.Fields.{Fields}
-use Rattle.matrix.specs.Meaning.{Matrix, Lawful, sum}
+use Rattle.matrix.specs.declared.Told.{Told}
+use Rattle.matrix.specs.Meaning.{Matrix, Lawful, Fits, sum}
 use Rattle.matrix.specs.Spelling.{packed, spelled, bytesOf}
 use Rattle.matrix.specs.Header.{headerBytes, vectorBytes, bits, fieldsOf, vectorIn, wordsFrom}
 use Rattle.matrix.specs.Pack.{MatrixPack}
@@ -19,20 +20,20 @@ use Rattle.theorems.specs.Stored.{vectorOf, onesIn, StoredBy}
 vector-ones : (m : Matrix) → Lawful m → m .fields .cs ≡ true → sum (bits (packed (vectorBytes (m .fields)) (m .marks))) ≡ sum (m .marks)
 vector-ones m g e = packed-sum (vectorBytes (m .fields)) (m .marks) (λ i. omega (arith, g .values .mark-rule i)) (rw e (omega (arith, g .values .mark-count)))
 
-lawful-stored : (m : Matrix) → Lawful m → fieldsOf (bytesOf m) .cs ≡ true → StoredBy (bytesOf m) m
-lawful-stored m g sparse =
+lawful-stored : (told : Told) (m : Matrix) → Lawful m → Fits told (m .fields) → fieldsOf told (bytesOf m) .cs ≡ true → StoredBy told (bytesOf m) m
+lawful-stored told m g fits sparse =
     let f = m .fields in
-    let same : fieldsOf (bytesOf m) ≡ m .fields = ap (λ (w : List ℕ). fieldsOf w) (sym (append-nil (bytesOf m))) ∙ ap (λ (k : Matrix). k .fields) (meaning-back m g []) in
-    let vector : vectorOf (bytesOf m) ≡ packed (vectorBytes f) (m .marks) =
+    let same : fieldsOf told (bytesOf m) ≡ m .fields = ap (fieldsOf told) (sym (append-nil (bytesOf m))) ∙ ap (λ (k : Matrix). k .fields) (meaning-back told m g fits []) in
+    let vector : vectorOf told (bytesOf m) ≡ packed (vectorBytes f) (m .marks) =
     ap (λ (k : Fields). vectorIn k (bytesOf m)) same ∙ ap (take (vectorBytes f)) (header-behind f (packed (vectorBytes f) (m .marks) ++ (spelled (f .slen) (replicate (f .n) 1) (m .deviations) ++ spelled (f .clen) (m .marks) (m .coefficients))))
     ∙ take-at (packed (vectorBytes f) (m .marks)) (spelled (f .slen) (replicate (f .n) 1) (m .deviations) ++ spelled (f .clen) (m .marks) (m .coefficients)) (vectorBytes f) (length-packed (vectorBytes f) (m .marks)) in
-    let stored : onesIn (bytesOf m) ≡ sum (m .marks) = ap (λ (v : List ℕ). sum (bits v)) vector ∙ vector-ones m g (subst (λ (k : Fields). k .cs ≡ true) same sparse) in
+    let stored : onesIn told (bytesOf m) ≡ sum (m .marks) = ap (λ (v : List ℕ). sum (bits v)) vector ∙ vector-ones m g (subst (λ (k : Fields). k .cs ≡ true) same sparse) in
     record {
       stored = stored;
       counted =
-          subst (λ (k : Fields). length (bytesOf m) ≡ wordsFrom k + (k .n * k .slen + onesIn (bytesOf m) * k .clen)) (sym same)
+          subst (λ (k : Fields). length (bytesOf m) ≡ wordsFrom k + (k .n * k .slen + onesIn told (bytesOf m) * k .clen)) (sym same)
           (pack-length m ∙ ap (λ (sent : ℕ). headerBytes f + (vectorBytes f + (f .n * f .slen + sent * f .clen))) (sym stored) ∙ omega arith);
     }
 
-pub sparse-stored : (w : List ℕ) (p : MatrixPack w) → fieldsOf w .cs ≡ true → StoredBy w (p .meaning)
-sparse-stored w p sparse = subst (λ (x : List ℕ). StoredBy x (p .meaning)) (p .spelled) (lawful-stored (p .meaning) (p .lawful) (subst (λ (x : List ℕ). fieldsOf x .cs ≡ true) (sym (p .spelled)) sparse))
+pub sparse-stored : (told : Told) (w : List ℕ) (p : MatrixPack told w) → fieldsOf told w .cs ≡ true → StoredBy told w (p .meaning)
+sparse-stored told w p sparse = subst (λ (x : List ℕ). StoredBy told x (p .meaning)) (p .spelled) (lawful-stored told (p .meaning) (p .lawful) (p .fits) (subst (λ (x : List ℕ). fieldsOf told x .cs ≡ true) (sym (p .spelled)) sparse))

@@ -1,8 +1,10 @@
 -- What a frame is, from its parts alone: a key, a BER length in its shortest form, and a pack of that many bytes.
 use Prim.Native.Nat.{ℕ}
 use mathlib.Core.Path.{_≡_}
+use mathlib.Core.Bool.{false}
 use mathlib.Core.List.{List, [], _++_}
 use lib.ListN.{length}
+use Rattle.matrix.specs.Meaning.{stating}
 use Rattle.matrix.specs.Pack.{MatrixPack}
 use Rattle.array.specs.Spelling.{ArrayPack}
 use Rattle.outcome.specs.declared.Kind.{Kind}
@@ -16,9 +18,9 @@ keyOf Matrix = matrixKey
 keyOf Array = arrayKey
 keyOf Unknown = []
 
--- the packs of a kind; the unknown has none
+-- the packs of a kind, in either mode, Mode 1's deviations being IEEE; the unknown has none
 abbrev pub PackOf : Kind → List ℕ → Type 0
-PackOf Matrix pack = MatrixPack pack
+PackOf Matrix pack = MatrixPack (stating false) pack
 PackOf Array pack = ArrayPack pack
 PackOf Unknown pack = ⊥
 

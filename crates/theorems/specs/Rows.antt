@@ -1,19 +1,29 @@
--- The rows of document 01, starred and not, a row for each reason that a kind of pack has, and one on each side of every constant.
+-- The rows of document 01, starred and not, worked out for each mode and stated format, a row for each reason that a kind of pack has, and one on
+-- each side of every constant.
 use Prim.Native.Nat.{ℕ}
-use mathlib.Core.List.{List, [], _∷_}
+use mathlib.Core.Bool.{true, false}
+use mathlib.Core.List.{List, [], _∷_, _++_}
 use Rattle.verdict.specs.declared.Reason.{Reason}
 use Rattle.verdict.specs.declared.Reason.the-variants.{Zero, TooLarge, PaddedNumber, Mode, Reserved, ValueLength, Sparse, SizeOne, Empty, VectorEnd, ValueRange, Processing}
 use Rattle.verdict.specs.declared.Verdict.{Verdict}
 use Rattle.verdict.specs.declared.Verdict.the-variants.{Complete, Unfinished, Refused}
 use Rattle.verdict.specs.Says.{Says}
+use Rattle.matrix.specs.declared.Told.{Told}
+use Rattle.matrix.specs.Meaning.{stating}
 use Rattle.matrix.specs.Pack.{MatrixPack}
 use Rattle.matrix.specs.Table.{Why}
 use Rattle.array.specs.Spelling.{ArrayPack}
 use Rattle.array.specs.Table.{Why as ArrayWhy}
 
+-- packs under what is told, or arrays
 pub data Kind : Type 0 where
-  matrix : Kind
+  matrix : Told → Kind
   array : Kind
+
+-- bytes, and what is to be said of them
+pub record Packed : Type 0 where
+  pub packed : List ℕ
+  pub answer : Verdict
 
 -- a kind of pack, bytes, and what is to be said of them
 pub record Row : Type 0 where
@@ -21,8 +31,8 @@ pub record Row : Type 0 where
   pub bytes : List ℕ
   pub said : Verdict
 
-abbrev row : List ℕ → Verdict → Row
-row bytes said = record { kind = matrix; bytes = bytes; said = said }
+abbrev row : List ℕ → Verdict → Packed
+row bytes said = record { packed = bytes; answer = said }
 
 abbrev arrayRow : List ℕ → Verdict → Row
 arrayRow bytes said = record { kind = array; bytes = bytes; said = said }
@@ -30,21 +40,14 @@ arrayRow bytes said = record { kind = array; bytes = bytes; said = said }
 abbrev refused : Reason → ℕ → Verdict
 refused reason place = Refused (record { reason = reason; place = place })
 
-unfoldable pub rows : List Row
-rows =
-    row [] (Unfinished 4)
-    ∷ row (0x01 ∷ []) (Unfinished 3)
-    ∷ row (0x02 ∷ []) (Unfinished 3)
-    ∷ row (0x03 ∷ []) (Unfinished 4)
-    ∷ row (0x10 ∷ []) (Unfinished 18)
-    ∷ row (0x11 ∷ []) (Unfinished 19)
-    ∷ row (0x40 ∷ []) (Unfinished 66)
-    ∷ row (0x41 ∷ []) (refused TooLarge 0)
+-- Mode 2, whatever is told
+unfoldable pub doubleRows : List Packed
+doubleRows =
+    row (0x41 ∷ []) (refused TooLarge 0)
     ∷ row (0x00 ∷ []) (refused Zero 0)
     ∷ row (0x7F ∷ []) (refused TooLarge 0)
     ∷ row (0x80 ∷ []) (refused PaddedNumber 0)
     ∷ row (0x81 ∷ []) (refused TooLarge 0)
-    ∷ row (0x02 ∷ 0x11 ∷ []) (refused Mode 1)
     ∷ row (0x02 ∷ 0xC0 ∷ []) (refused Reserved 1)
     ∷ row (0x02 ∷ 0x83 ∷ []) (refused ValueLength 1)
     ∷ row (0x02 ∷ 0xA0 ∷ []) (refused Sparse 1)
@@ -79,7 +82,96 @@ rows =
     ∷ row (0x02 ∷ 0x88 ∷ 0x00 ∷ 0x3F ∷ 0xF0 ∷ 0 ∷ 0 ∷ 0 ∷ 0 ∷ 0 ∷ 0 ∷ []) (Complete 11)
     ∷ row (0x02 ∷ 0x88 ∷ 0x00 ∷ 0x3F ∷ 0xF0 ∷ 0 ∷ 0 ∷ 0 ∷ 0 ∷ 0 ∷ 1 ∷ []) (refused ValueRange 10)
     ∷ row (0x03 ∷ 0xB2 ∷ 0x04 ∷ 0xA0 ∷ 0x3F ∷ 0x80 ∷ 0 ∷ 0 ∷ 0x40 ∷ 0 ∷ 0 ∷ 0 ∷ 0x40 ∷ 0x80 ∷ 0 ∷ 0 ∷ 0x60 ∷ 0 ∷ 0x20 ∷ 0 ∷ []) (Complete 20)
-    ∷ arrayRow [] (Unfinished 4)
+    ∷ []
+
+-- the rows of document 01 that tell the modes apart, where Mode 1 is not let in
+unfoldable pub aloneRows : List Packed
+aloneRows =
+    row [] (Unfinished 4)
+    ∷ row (0x01 ∷ []) (Unfinished 3)
+    ∷ row (0x02 ∷ []) (Unfinished 3)
+    ∷ row (0x03 ∷ []) (Unfinished 4)
+    ∷ row (0x10 ∷ []) (Unfinished 18)
+    ∷ row (0x11 ∷ []) (Unfinished 19)
+    ∷ row (0x40 ∷ []) (Unfinished 66)
+    ∷ row (0x02 ∷ 0x11 ∷ []) (refused Mode 1)
+    ∷ []
+
+-- Mode 1, whichever format is stated
+unfoldable pub singleRows : List Packed
+singleRows =
+    row (0x03 ∷ 0x4B ∷ []) (Unfinished 13)
+    ∷ row (0x03 ∷ 0x4B ∷ 0xA0 ∷ []) (Unfinished 18)
+    ∷ row (0x03 ∷ 0x4B ∷ 0xA0 ∷ 0x3F ∷ 0x80 ∷ 0x00 ∷ 0x00 ∷ 0x40 ∷ 0x00 ∷ 0x00 ∷ 0x00 ∷ 0x40 ∷ 0x80 ∷ 0x00 ∷ 0x00 ∷ 0x60 ∷ 0x00 ∷ 0x00 ∷ 0x20 ∷ 0x00 ∷ 0x00 ∷ []) (Complete 21)
+    ∷ row (0x02 ∷ 0x01 ∷ 0x80 ∷ []) (Complete 3)
+    ∷ row (0x02 ∷ 0x01 ∷ 0x81 ∷ []) (refused ValueRange 2)
+    ∷ row (0x02 ∷ 0x01 ∷ []) (Unfinished 1)
+    ∷ row (0x02 ∷ 0x07 ∷ []) (Unfinished 7)
+    ∷ row (0x02 ∷ 0x08 ∷ []) (refused Sparse 1)
+    ∷ row (0x01 ∷ 0x01 ∷ []) (refused SizeOne 1)
+    ∷ row (0x02 ∷ 0x00 ∷ []) (refused Empty 1)
+    ∷ row (0x01 ∷ 0x00 ∷ []) (refused Empty 1)
+    ∷ row (0x03 ∷ 0x09 ∷ 0x00 ∷ []) (refused Empty 2)
+    ∷ row (0x03 ∷ 0x09 ∷ 0xA1 ∷ []) (refused VectorEnd 2)
+    ∷ row (0x03 ∷ 0x09 ∷ []) (Unfinished 2)
+    ∷ row (0x03 ∷ 0x09 ∷ 0x80 ∷ []) (Unfinished 1)
+    ∷ row (0x03 ∷ 0x09 ∷ 0x80 ∷ 0x40 ∷ []) (Complete 4)
+    ∷ row (0x01 ∷ 0x20 ∷ 0x7B ∷ 0xFF ∷ []) (Complete 4)
+    ∷ row (0x01 ∷ 0x40 ∷ 0x7F ∷ 0x7F ∷ 0xFF ∷ 0xFF ∷ []) (Complete 6)
+    ∷ []
+
+-- Mode 1 with IEEE deviations, and what is missing of either mode
+unfoldable pub ieeeRows : List Packed
+ieeeRows =
+    row [] (Unfinished 3)
+    ∷ row (0x01 ∷ []) (Unfinished 3)
+    ∷ row (0x02 ∷ []) (Unfinished 2)
+    ∷ row (0x03 ∷ []) (Unfinished 3)
+    ∷ row (0x10 ∷ []) (Unfinished 17)
+    ∷ row (0x11 ∷ []) (Unfinished 19)
+    ∷ row (0x12 ∷ []) (Unfinished 20)
+    ∷ row (0x40 ∷ []) (Unfinished 66)
+    ∷ row (0x02 ∷ 0x11 ∷ []) (refused ValueLength 1)
+    ∷ row (0x01 ∷ 0x10 ∷ []) (refused ValueLength 1)
+    ∷ row (0x01 ∷ 0x20 ∷ []) (Unfinished 2)
+    ∷ row (0x01 ∷ 0x30 ∷ []) (refused ValueLength 1)
+    ∷ row (0x01 ∷ 0x40 ∷ []) (Unfinished 4)
+    ∷ row (0x01 ∷ 0x50 ∷ []) (refused ValueLength 1)
+    ∷ row (0x01 ∷ 0x60 ∷ []) (refused ValueLength 1)
+    ∷ row (0x01 ∷ 0x70 ∷ []) (refused ValueLength 1)
+    ∷ row (0x01 ∷ 0x18 ∷ []) (refused ValueLength 1)
+    ∷ row (0x01 ∷ 0x19 ∷ []) (refused ValueLength 1)
+    ∷ row (0x01 ∷ 0x20 ∷ 0x7C ∷ []) (refused ValueRange 2)
+    ∷ row (0x01 ∷ 0x40 ∷ 0x7F ∷ 0x80 ∷ []) (refused ValueRange 3)
+    ∷ []
+
+-- Mode 1 with mapped deviations, and what is missing of either mode
+unfoldable pub mappedRows : List Packed
+mappedRows =
+    row [] (Unfinished 3)
+    ∷ row (0x01 ∷ []) (Unfinished 2)
+    ∷ row (0x02 ∷ []) (Unfinished 2)
+    ∷ row (0x03 ∷ []) (Unfinished 3)
+    ∷ row (0x10 ∷ []) (Unfinished 17)
+    ∷ row (0x11 ∷ []) (Unfinished 18)
+    ∷ row (0x12 ∷ []) (Unfinished 19)
+    ∷ row (0x40 ∷ []) (Unfinished 65)
+    ∷ row (0x02 ∷ 0x11 ∷ []) (Unfinished 3)
+    ∷ row (0x01 ∷ 0x10 ∷ []) (Unfinished 1)
+    ∷ row (0x01 ∷ 0x70 ∷ []) (Unfinished 7)
+    ∷ row (0x01 ∷ 0x10 ∷ 0x80 ∷ []) (Complete 3)
+    ∷ row (0x01 ∷ 0x10 ∷ 0x81 ∷ []) (refused ValueRange 2)
+    ∷ row (0x01 ∷ 0x70 ∷ 0x80 ∷ 0x00 ∷ 0x00 ∷ 0x00 ∷ 0x00 ∷ 0x00 ∷ 0x00 ∷ []) (Complete 9)
+    ∷ row (0x01 ∷ 0x70 ∷ 0x80 ∷ 0x00 ∷ 0x00 ∷ 0x00 ∷ 0x00 ∷ 0x00 ∷ 0x01 ∷ []) (refused ValueRange 8)
+    ∷ row (0x01 ∷ 0x18 ∷ []) (refused Sparse 1)
+    ∷ row (0x01 ∷ 0x19 ∷ []) (refused SizeOne 1)
+    ∷ row (0x01 ∷ 0x20 ∷ 0x80 ∷ 0x00 ∷ []) (Complete 4)
+    ∷ []
+
+-- arrays
+unfoldable pub arrayRows : List Row
+arrayRows =
+    arrayRow [] (Unfinished 4)
     ∷ arrayRow (0x01 ∷ 0x01 ∷ 0x00 ∷ 0x01 ∷ []) (Complete 4)
     ∷ arrayRow (0x01 ∷ 0x82 ∷ 0x80 ∷ 0x00 ∷ []) (Unfinished 2)
     ∷ arrayRow (0x01 ∷ 0x82 ∷ 0x80 ∷ 0x01 ∷ []) (refused TooLarge 3)
@@ -104,9 +196,20 @@ rows =
     ∷ arrayRow (0x02 ∷ 0x02 ∷ 0x01 ∷ 0x02 ∷ 0x01 ∷ 0 ∷ 0 ∷ 0 ∷ 0 ∷ 0 ∷ []) (Complete 9)
     ∷ []
 
+-- rows under what is told
+unfoldable pub under : Told → List Packed → List Row
+under told [] = []
+under told (r ∷ rs) = record { kind = matrix told; bytes = r .packed; said = r .answer } ∷ under told rs
+
+-- all of them
+unfoldable pub rows : List Row
+rows =
+    under (record { mode1 = false; mapped = false }) (doubleRows ++ aloneRows)
+    ++ (under (stating false) (doubleRows ++ (singleRows ++ ieeeRows)) ++ (under (stating true) (doubleRows ++ (singleRows ++ mappedRows)) ++ arrayRows))
+
 -- what a verdict says of a kind's packs
 abbrev pub SaysOf : Kind → List ℕ → Verdict → Type 0
-SaysOf matrix = Says MatrixPack Why
+SaysOf (matrix told) = Says (MatrixPack told) (Why told)
 SaysOf array = Says ArrayPack ArrayWhy
 
 -- of each row's bytes the verdict is said

@@ -7,6 +7,7 @@ use lib.ListN.{length}
 use lib.Dec.{ltb}
 use Rattle.verdict.specs.declared.Verdict.{Verdict}
 use Rattle.verdict.specs.Lent.{saidFor, leftFor}
+use Rattle.matrix.specs.declared.Told.{Told}
 use Rattle.matrix.specs.Meaning.{Matrix, pairs}
 use Rattle.matrix.specs.Spelling.{meaningOf}
 use Rattle.matrix.specs.Machine.{verdictOf}
@@ -23,8 +24,8 @@ pub record UnpackedFor (verdict : Verdict) (m : Matrix) (deviations coefficients
   pub left-coefficients : coefficients′ ≡ leftFor (saidFor verdict (unpackShort (m .fields .n) deviations coefficients marks)) (m .coefficients) coefficients
   pub left-marks : marks′ ≡ leftFor (saidFor verdict (unpackShort (m .fields .n) deviations coefficients marks)) (m .marks) marks
 
-abbrev pub UnpackedBy : List ℕ → List ℕ → List ℕ → List ℕ → Verdict → List ℕ → List ℕ → List ℕ → Type 0
-UnpackedBy bytes = UnpackedFor (verdictOf bytes) (meaningOf bytes)
+abbrev pub UnpackedBy : Told → List ℕ → List ℕ → List ℕ → List ℕ → Verdict → List ℕ → List ℕ → List ℕ → Type 0
+UnpackedBy told bytes = UnpackedFor (verdictOf told bytes) (meaningOf told bytes)
 
 -- N × N words and marks have no room
 abbrev pub expandShort : ℕ → List ℕ → List ℕ → Bool
@@ -36,5 +37,5 @@ pub record ExpandedFor (verdict : Verdict) (m : Matrix) (words marks : List ℕ)
   pub left-words : words′ ≡ leftFor (saidFor verdict (expandShort (m .fields .n) words marks)) (expandedWords m) words
   pub left-marks : marks′ ≡ leftFor (saidFor verdict (expandShort (m .fields .n) words marks)) (expandedMarks m) marks
 
-abbrev pub ExpandedBy : List ℕ → List ℕ → List ℕ → Verdict → List ℕ → List ℕ → Type 0
-ExpandedBy bytes = ExpandedFor (verdictOf bytes) (meaningOf bytes)
+abbrev pub ExpandedBy : Told → List ℕ → List ℕ → List ℕ → Verdict → List ℕ → List ℕ → Type 0
+ExpandedBy told bytes = ExpandedFor (verdictOf told bytes) (meaningOf told bytes)

@@ -2,6 +2,7 @@
 ghost use Rattle.unpack.specs.Unpacking.{UnpackedBy, ExpandedBy};
 use crate::cells::expand_found;
 use crate::words::unpack_found;
+use matrix::Told;
 use matrixwalk::Walked;
 use matrixwalk::found_in;
 use verdict::Verdict;
@@ -9,16 +10,17 @@ use verdict::Verdict;
 mod cells;
 mod words;
 
-// Fills N deviation words, M coefficient words and M marks: the verdict, or 13.
+// Fills N deviation words, M coefficient words and M marks: the verdict under what is told, or 13.
 pub fn unpack(
     bytes: &[u8],
+    told: Told,
     deviations: &mut [u64],
     coefficients: &mut [u64],
     marks: &mut [u8],
 ) -> Verdict
-    ensures { λ r. ⌜ UnpackedBy (now (bytes .entry)) (now (deviations .entry)) (now (coefficients .entry)) (now (marks .entry)) r (now (deviations .exit)) (now (coefficients .exit)) (now (marks .exit)) ⌝ }
+    ensures { λ r. ⌜ UnpackedBy told (now (bytes .entry)) (now (deviations .entry)) (now (coefficients .entry)) (now (marks .entry)) r (now (deviations .exit)) (now (coefficients .exit)) (now (marks .exit)) ⌝ }
 {
-    let walked = found_in(bytes);
+    let walked = found_in(bytes, told);
     match walked {
         Walked::Whole(found) => unpack_found(bytes, found, deviations, coefficients, marks),
         Walked::Unfinished(missing) => Verdict::Unfinished(missing),
@@ -26,11 +28,11 @@ pub fn unpack(
     }
 }
 
-// Fills N × N words and marks by rows: the verdict, or 13.
-pub fn expand(bytes: &[u8], words: &mut [u64], marks: &mut [u8]) -> Verdict
-    ensures { λ r. ⌜ ExpandedBy (now (bytes .entry)) (now (words .entry)) (now (marks .entry)) r (now (words .exit)) (now (marks .exit)) ⌝ }
+// Fills N × N words and marks by rows: the verdict under what is told, or 13.
+pub fn expand(bytes: &[u8], told: Told, words: &mut [u64], marks: &mut [u8]) -> Verdict
+    ensures { λ r. ⌜ ExpandedBy told (now (bytes .entry)) (now (words .entry)) (now (marks .entry)) r (now (words .exit)) (now (marks .exit)) ⌝ }
 {
-    let walked = found_in(bytes);
+    let walked = found_in(bytes, told);
     match walked {
         Walked::Whole(found) => expand_found(bytes, found, words, marks),
         Walked::Unfinished(missing) => Verdict::Unfinished(missing),

@@ -51,6 +51,9 @@ put-more out place p x h =
     let l : length (put out place p) ≡ length out = length-put out place p (omega arith) in
     put-one (put out place p) (place + length p) x (omega arith) ∙ put-put out place p (x ∷ []) (omega arith)
 
+pub put-two : (out : List ℕ) (place x y : ℕ) → place + 2 ≤ length out → set (set out place x) (place + 1) y ≡ put out place (x ∷ y ∷ [])
+put-two out place x y h = rw (put-one out place x (omega arith)) (put-more out place (x ∷ []) y (omega arith))
+
 pub put-three : (out : List ℕ) (place x y z : ℕ) → place + 3 ≤ length out → set (set (set out place x) (place + 1) y) (place + 2) z ≡ put out place (x ∷ y ∷ z ∷ [])
 put-three out place x y z h = rw (put-one out place x (omega arith), put-more out place (x ∷ []) y (omega arith)) (put-more out place (x ∷ y ∷ []) z (omega arith))
 

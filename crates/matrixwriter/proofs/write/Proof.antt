@@ -22,7 +22,7 @@ use Rattle.matrixwriter.proofs.write.Tie as tie
 module _ (s : tie.Start) where
   -- the rules of what is given
   abbrev rows : List Row
-  rows = givenRows (s .args .fields) (now (s .args .deviations)) (now (s .args .coefficients)) (now (s .args .marks))
+  rows = givenRows (s .args .mapped) (s .args .fields) (now (s .args .deviations)) (now (s .args .coefficients)) (now (s .args .marks))
 
   -- how many coefficients are sent
   abbrev sent : ℕ
@@ -53,7 +53,7 @@ write-given-requires c κs =
     let d = c .before .before in
     let a = start (d .before .before) .args in
     let k = kept d in
-    let g = given-lawful (a .fields) (now (a .deviations)) (now (a .coefficients)) (now (a .marks)) (k .0) in
+    let g = given-lawful (a .fields) (now (a .deviations)) (now (a .coefficients)) (now (a .marks)) (a .mapped) (k .0) in
     record { enough = g .0; lawful = g .1; counted = k .1 }
 
 enum-known-checked-2 : tie.Need-enum-known-checked-2

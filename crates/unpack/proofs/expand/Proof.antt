@@ -23,7 +23,7 @@ expand-found-requires : tie.Need-expand-found-requires
 expand-found-requires c κs =
     let w = c .before .before .before in
     let f = w .before .before in
-    found-whole (now (f .before .before .before .before .args .bytes)) (λ i. f .before .before .before .shared-slice-known .given i .fits) (w .walked .given .0 .0) (sym (w .walked .given .1) ∙ f .found-in .ensures)
+    found-whole (f .before .before .before .before .args .told) (now (f .before .before .before .before .args .bytes)) (λ i. f .before .before .before .shared-slice-known .given i .fits) (w .walked .given .0 .0) (sym (w .walked .given .1) ∙ f .found-in .ensures)
 
 enum-known-walked-2 : tie.Need-enum-known-walked-2
 enum-known-walked-2 c = search needs
@@ -46,22 +46,22 @@ returns c =
     let a = f .before .before .before .before .args in
     let found = w .walked .given .0 .0 in
     let is = sym (w .walked .given .1) ∙ f .found-in .ensures in
-    subst (λ (v : Verdict). ExpandedFor v (meaningOf (now (a .bytes))) (now (a .words)) (now (a .marks)) (u .result) (u .last .1 .1 .0) (u .last .1 .1 .1 .0)) (sym (walk-said (now (a .bytes)) (Whole found) is))
-    (subst (λ (m : Matrix). ExpandedFor (Complete (found .length)) m (now (a .words)) (now (a .marks)) (u .result) (u .last .1 .1 .0) (u .last .1 .1 .1 .0)) (found-meaning (now (a .bytes)) found is) (u .ensures))
+    subst (λ (v : Verdict). ExpandedFor v (meaningOf (a .told) (now (a .bytes))) (now (a .words)) (now (a .marks)) (u .result) (u .last .1 .1 .0) (u .last .1 .1 .1 .0)) (sym (walk-said (a .told) (now (a .bytes)) (Whole found) is))
+    (subst (λ (m : Matrix). ExpandedFor (Complete (found .length)) m (now (a .words)) (now (a .marks)) (u .result) (u .last .1 .1 .0) (u .last .1 .1 .1 .0)) (found-meaning (a .told) (now (a .bytes)) found is) (u .ensures))
 
 returns-2 : tie.Need-returns-2
 returns-2 c =
     let w = c .before in
     let f = w .before .before in
     let a = f .before .before .before .before .args in
-    expanded-unfinished (now (a .bytes)) (now (a .words)) (now (a .marks)) (w .walked2 .given .0 .0) (sym (w .walked2 .given .1) ∙ f .found-in .ensures)
+    expanded-unfinished (a .told) (now (a .bytes)) (now (a .words)) (now (a .marks)) (w .walked2 .given .0 .0) (sym (w .walked2 .given .1) ∙ f .found-in .ensures)
 
 returns-3 : tie.Need-returns-3
 returns-3 c =
     let w = c .before in
     let f = w .before .before in
     let a = f .before .before .before .before .args in
-    expanded-refused (now (a .bytes)) (now (a .words)) (now (a .marks)) (w .walked3 .given .0 .0) (sym (w .walked3 .given .1) ∙ f .found-in .ensures)
+    expanded-refused (a .told) (now (a .bytes)) (now (a .words)) (now (a .marks)) (w .walked3 .given .0 .0) (sym (w .walked3 .given .1) ∙ f .found-in .ensures)
 
 pub expand-spec : {M : Type 1} → statement M
 expand-spec =

@@ -1,91 +1,77 @@
--- `matrixhead::header::from_control1` meets its contract. Assumes nothing.
-use Prim.Native.Nat.{ℕ, _+_}
-use mathlib.Core.Path.{sym, ap, _∙_, subst}
+-- `matrixhead::header::from_control1` meets its contract: the top bit of the byte behind the size tells the mode. Assumes nothing.
+use Prim.Native.Nat.{_/_}
+use mathlib.Core.Path.{_≡_, sym, ap, _∙_, subst₂}
 use native.Mathlib.Omega.{arith}
 use borrow.Author.Needs.{needs}
 use denote.Ref.{now}
-use Rattle.matrix.specs.Header.{fieldsOf}
-use Rattle.matrix.proofs.Header.{header-least}
+use lib.ListN.{getD}
 use Rattle.verdict.specs.declared.Verdict.{Verdict}
 use Rattle.verdict.specs.declared.Verdict.the-variants.{Unfinished}
 use Rattle.verdict.proofs.Reaching.{reach-cut}
-use Rattle.matrix.specs.Machine.{control1, step, least}
+use Rattle.matrix.specs.declared.Fields.{Fields}
+use Rattle.matrix.specs.Header.{second, fieldsIn}
+use Rattle.matrix.specs.Machine.{control1, inFirst, step, least}
+use Rattle.matrix.specs.Reached.{verdictBehind}
+use Rattle.matrix.proofs.ControlBytes.{mode-two}
+use Rattle.matrix.proofs.Header.{header-least}
 use Rattle.matrixhead.specs.Parts.{HeadFrom}
-use Rattle.matrix.proofs.Counts.{least-for-most}
-use Rattle.matrixhead.proofs.Heading.{control1-broken, control1-next, control1-lawful}
+use Rattle.matrixhead.proofs.Heading.{first-step, first-fields}
 use Rattle.matrixhead.proofs.header.from_control1.Statement.{statement}
 use Rattle.matrixhead.proofs.header.from_control1.Tie as tie
 
-least-for-requires : tie.Need-least-for-requires
-least-for-requires c κs = search needs
-
-add-t10 : tie.Need-add-t10
-add-t10 c =
-    let s = c .before .before .before in
-    omega (arith, c .least-for .ensures, least-for-most (s .args .n) (s .pre .2 .1))
+least-behind-requires : tie.Need-least-behind-requires
+least-behind-requires c κs = search needs
 
 returns : tie.Need-returns
 returns c =
     let s = c .before .before .before in
-    (reach-cut step least (now (s .args .bytes)) (control1 (s .args .n)) 1 (omega arith) ∙ ap (λ (n : ℕ). Unfinished (2 + n)) (sym (c .least-for .ensures)), omega (arith, header-least (fieldsOf (now (s .args .bytes)))))
+    let b = now (s .args .bytes) in (
+      reach-cut step least b (control1 (s .args .told) (s .args .n)) 1 (omega arith) ∙ ap Unfinished (sym (c .least-behind .ensures)),
+      omega (arith, header-least (fieldsIn (s .args .told) (s .args .n) (getD b 1 0) (getD b 2 0))),
+    )
 
 byte-at-requires : tie.Need-byte-at-requires
 byte-at-requires c κs = search needs
 
+from-low-requires : tie.Need-from-low-requires
+from-low-requires c κs = let d = c .before in let s = d .before .before .before in (omega arith, d .byte-at .ensures .0, c .if2 .taken, s .pre .1)
+
+returns-2 : tie.Need-returns-2
+returns-2 c = c .from-low .ensures
+
 first-of-requires : tie.Need-first-of-requires
 first-of-requires c κs = search needs
 
-judge-control1-requires : tie.Need-judge-control1-requires
-judge-control1-requires c κs = search needs
-
-enum-told : tie.Need-enum-told
-enum-told c = search needs
-
-from-control2-requires : tie.Need-from-control2-requires
-from-control2-requires c κs =
-    let j = c .before .before in
-    let g = j .before in
-    let s = g .before .before .before .before in (
-      omega arith,
-      g .first-of .ensures ∙ rw (s .pre .1, g .before .byte-at .ensures .0),
-      control1-lawful (now (s .args .bytes)) (s .args .n) (g .before .byte-at .result) (g .first-of .result) (omega arith) (g .before .byte-at .ensures .0) (g .first-of .ensures) (s .pre .2 .0) (s .pre .2 .1)
-          (sym (j .judge-control1 .ensures) ∙ c .enum-told .given .1),
-    )
-
-enum-known-judged : tie.Need-enum-known-judged
-enum-known-judged c = search needs
-
-returns-2 : tie.Need-returns-2
-returns-2 c =
-    let j = c .before .before .before in
-    let g = j .before in
-    let s = g .before .before .before .before in
-    subst (λ (v : Verdict). HeadFrom v (now (s .args .bytes)) (c .from-control2 .result))
-    (sym (control1-next (now (s .args .bytes)) (s .args .n) (g .before .byte-at .result) (g .first-of .result) (omega arith) (g .before .byte-at .ensures .0) (g .first-of .ensures) (sym (j .judge-control1 .ensures) ∙ c .before .enum-told .given .1)))
-    (c .from-control2 .ensures)
+from-first-requires : tie.Need-from-first-requires
+from-first-requires c κs =
+    let s = c .before .before .before .before .before in
+    let n = ap (λ (f : Fields). f .n) (c .first-of .ensures) in
+    (omega arith, ap (λ (f : Fields). f .mode1) (c .first-of .ensures), (omega (arith, n, s .pre .1 .0), omega (arith, n, s .pre .1 .1)))
 
 returns-3 : tie.Need-returns-3
 returns-3 c =
-    let j = c .before .before .before in
-    let g = j .before in
-    let s = g .before .before .before .before in (
-      control1-broken (now (s .args .bytes)) (s .args .n) (g .before .byte-at .result) (g .first-of .result) (omega arith) (g .before .byte-at .ensures .0) (g .first-of .ensures) (c .before .judged .given .0 .0)
-          (sym (j .judge-control1 .ensures) ∙ c .before .judged .given .1),
-      omega (arith, header-least (fieldsOf (now (s .args .bytes)))),
-    )
+    let l = c .before .before in
+    let d = l .before in
+    let a = d .before .before .before .args in
+    let b = now (a .bytes) in
+    let byte = d .byte-at .result in
+    let top : byte / 128 ≡ 1 = omega (arith, d .byte-at .ensures .1, l .if2 .left) in
+    let two = mode-two (a .told) byte top in
+    let e = c .before .first-of .ensures in
+    subst₂ (λ (v : Verdict) (f : Fields). HeadFrom v f b (c .from-first .result))
+    (ap (λ (f : Fields). verdictBehind (inFirst f byte) b 2) e ∙ sym (first-step (a .told) b (a .n) byte (omega arith) (d .byte-at .ensures .0) two))
+    (ap (λ (f : Fields). second f (getD b 2 0)) e ∙ first-fields (a .told) b (a .n) byte (omega arith) (d .byte-at .ensures .0) (getD b 2 0) two)
+    (c .from-first .ensures)
 
 pub from-control1-spec : {M : Type 1} → statement M
 from-control1-spec =
     tie.close
     (tie.spec
-    least-for-requires
-    add-t10
+    least-behind-requires
     returns
     byte-at-requires
-    first-of-requires
-    judge-control1-requires
-    enum-told
-    from-control2-requires
-    enum-known-judged
+    from-low-requires
     returns-2
+    first-of-requires
+    from-first-requires
     returns-3)

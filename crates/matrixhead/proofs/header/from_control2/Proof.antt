@@ -4,7 +4,8 @@ use mathlib.Core.Path.{sym, ap, _∙_}
 use native.Mathlib.Omega.{arith}
 use borrow.Author.Needs.{needs}
 use denote.Ref.{now}
-use Rattle.matrix.specs.Header.{fieldsOf}
+use lib.ListN.{getD}
+use Rattle.matrix.specs.Header.{second}
 use Rattle.matrix.proofs.Header.{header-two}
 use Rattle.verdict.specs.declared.Verdict.the-variants.{Unfinished}
 use Rattle.verdict.proofs.Reaching.{reach-cut}
@@ -25,7 +26,7 @@ add-t10 c =
 returns : tie.Need-returns
 returns c =
     let s = c .before .before .before in
-    (reach-cut step least (now (s .args .bytes)) (control2 (s .args .f)) 2 (omega arith) ∙ ap (λ (n : ℕ). Unfinished (1 + n)) (sym (c .least-values .ensures)), omega (arith, header-two (fieldsOf (now (s .args .bytes)))))
+    (reach-cut step least (now (s .args .bytes)) (control2 (s .args .f)) 2 (omega arith) ∙ ap (λ (n : ℕ). Unfinished (1 + n)) (sym (c .least-values .ensures)), omega (arith, header-two (second (s .args .f) (getD (now (s .args .bytes)) 2 0)) (s .pre .1)))
 
 byte-at-requires : tie.Need-byte-at-requires
 byte-at-requires c κs = search needs
@@ -55,9 +56,9 @@ returns-3 c =
     let j = c .before .before .before in
     let g = j .before in
     let s = g .before .before .before .before in (
-      control2-broken (now (s .args .bytes)) (s .args .f) (g .second-of .result) (g .before .byte-at .result) (omega arith) (g .before .byte-at .ensures .0) (g .second-of .ensures) (c .before .judged .given .0 .0)
+      control2-broken (now (s .args .bytes)) (s .args .f) (g .second-of .result) (g .before .byte-at .result) (omega arith) (g .before .byte-at .ensures .0) (g .second-of .ensures) (s .pre .1) (c .before .judged .given .0 .0)
           (sym (j .judge-control2 .ensures) ∙ c .before .judged .given .1),
-      omega (arith, header-two (fieldsOf (now (s .args .bytes)))),
+      omega (arith, header-two (second (s .args .f) (getD (now (s .args .bytes)) 2 0)) (s .pre .1)),
     )
 
 pub from-control2-spec : {M : Type 1} → statement M

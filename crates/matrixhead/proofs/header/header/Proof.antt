@@ -1,11 +1,15 @@
 -- `matrixhead::header::header` meets its contract. Assumes nothing.
-use mathlib.Core.Path.{sym, _∙_, subst}
+use Prim.Native.Nat.{ℕ}
+use mathlib.Core.Path.{sym, ap, _∙_, subst₂}
 use native.Mathlib.Omega.{arith}
 use borrow.Author.Needs.{needs}
 use denote.Ref.{now}
-use Rattle.matrix.specs.Header.{fieldsOf}
+use lib.ListN.{getD}
+use Rattle.matrix.specs.declared.Fields.{Fields}
+use Rattle.matrix.specs.Header.{fieldsIn, fieldsOf}
 use Rattle.matrix.proofs.Header.{header-least}
 use Rattle.verdict.specs.declared.Verdict.{Verdict}
+use Rattle.verdict.specs.declared.Verdict.the-variants.{Unfinished}
 use Rattle.verdict.proofs.Reaching.{reach-start, reach-cut}
 use Rattle.matrix.specs.Table.{sizeRows}
 use Rattle.matrix.specs.Machine.{size, step, least}
@@ -16,10 +20,17 @@ use Rattle.matrixhead.proofs.Heading.{size-broken, size-next}
 use Rattle.matrixhead.proofs.header.header.Statement.{statement}
 use Rattle.matrixhead.proofs.header.header.Tie as tie
 
+least-of-all-requires : tie.Need-least-of-all-requires
+least-of-all-requires c κs = search needs
+
 returns : tie.Need-returns
 returns c =
-    let s = c .before .before in
-    (sym (reach-start step least (now (s .args .bytes)) size) ∙ reach-cut step least (now (s .args .bytes)) size 0 (omega arith), omega (arith, header-least (fieldsOf (now (s .args .bytes)))))
+    let s = c .before .before .before in
+    let b = now (s .args .bytes) in
+    let t = s .args .told in (
+      sym (reach-start step least b (size t)) ∙ reach-cut step least b (size t) 0 (omega arith) ∙ ap Unfinished (sym (c .least-of-all .ensures)),
+      omega (arith, header-least (fieldsOf t b)),
+    )
 
 byte-at-requires : tie.Need-byte-at-requires
 byte-at-requires c κs = search needs
@@ -33,7 +44,7 @@ enum-told c = search needs
 from-control1-requires : tie.Need-from-control1-requires
 from-control1-requires c κs =
     let j = c .before .before in
-    (omega arith, j .before .byte-at .ensures .0, size-kept (j .before .byte-at .result) (judgement-kept (sizeRows (j .before .byte-at .result)) (sym (j .judge-size .ensures) ∙ c .enum-told .given .1)))
+    (omega arith, size-kept (j .before .byte-at .result) (judgement-kept (sizeRows (j .before .byte-at .result)) (sym (j .judge-size .ensures) ∙ c .enum-told .given .1)))
 
 enum-known-judged : tie.Need-enum-known-judged
 enum-known-judged c = search needs
@@ -41,23 +52,29 @@ enum-known-judged c = search needs
 returns-2 : tie.Need-returns-2
 returns-2 c =
     let j = c .before .before .before in
-    let b = j .before in
-    let s = b .before .before .before in
-    subst (λ (v : Verdict). HeadFrom v (now (s .args .bytes)) (c .from-control1 .result))
-    (sym (size-next (now (s .args .bytes)) (b .byte-at .result) (omega arith) (b .byte-at .ensures .0) (sym (j .judge-size .ensures) ∙ c .before .enum-told .given .1)))
+    let d = j .before in
+    let s = d .before .before .before in
+    let b = now (s .args .bytes) in
+    let t = s .args .told in
+    subst₂ (λ (v : Verdict) (f : Fields). HeadFrom v f b (c .from-control1 .result))
+    (sym (size-next t b (d .byte-at .result) (omega arith) (d .byte-at .ensures .0) (sym (j .judge-size .ensures) ∙ c .before .enum-told .given .1)))
+    (ap (λ (n : ℕ). fieldsIn t n (getD b 1 0) (getD b 2 0)) (d .byte-at .ensures .0))
     (c .from-control1 .ensures)
 
 returns-3 : tie.Need-returns-3
 returns-3 c =
     let j = c .before .before .before in
-    let b = j .before in
-    let s = b .before .before .before in
-    (size-broken (now (s .args .bytes)) (b .byte-at .result) (omega arith) (b .byte-at .ensures .0) (c .before .judged .given .0 .0) (sym (j .judge-size .ensures) ∙ c .before .judged .given .1), omega (arith, header-least (fieldsOf (now (s .args .bytes)))))
+    let d = j .before in
+    let s = d .before .before .before in
+    let b = now (s .args .bytes) in
+    let t = s .args .told in
+    (size-broken t b (d .byte-at .result) (omega arith) (d .byte-at .ensures .0) (c .before .judged .given .0 .0) (sym (j .judge-size .ensures) ∙ c .before .judged .given .1), omega (arith, header-least (fieldsOf t b)))
 
 pub header-spec : {M : Type 1} → statement M
 header-spec =
     tie.close
     (tie.spec
+    least-of-all-requires
     returns
     byte-at-requires
     judge-size-requires

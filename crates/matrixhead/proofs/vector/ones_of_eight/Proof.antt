@@ -5,7 +5,7 @@ use denote.Ref.{now}
 use lib.Count.{ones}
 use lib.ListN.{take, drop}
 use Rattle.word.specs.declared.bytes.Read.{Read}
-use Rattle.word.proofs.Whole.{wordIn, read-whole}
+use Rattle.word.proofs.Whole.{wordIn, read-part}
 use Rattle.word.proofs.Digits.{below-take, below-drop}
 use Rattle.matrix.specs.Meaning.{sum}
 use Rattle.matrix.specs.Header.{bits}
@@ -15,13 +15,25 @@ use Rattle.matrixhead.proofs.vector.ones_of_eight.Statement.{statement}
 use Rattle.matrixhead.proofs.vector.ones_of_eight.Tie as tie
 
 -- what was read has the ones of the bytes
-there : (c : tie.After-read-at) → let a = c .before .before .args in ones (wordIn (c .read-at .result)) ≡ sum (bits (take 8 (drop (a .place) (now (a .bytes)))))
+there : (c : tie.After-read-at) → let a = c .before .before .before .args in ones (wordIn (c .read-at .result)) ≡ sum (bits (take 8 (drop (a .place) (now (a .bytes)))))
 there c =
-    let k = c .before in
+    let k = c .before .before in
     let s = k .before in
     let bytes = now (s .args .bytes) in
-    ap (λ (r : Read). ones (wordIn r)) (c .read-at .ensures ∙ read-whole bytes (s .args .place) 8 (omega arith) (s .pre))
+    ap (λ (r : Read). ones (wordIn r)) (c .read-at .ensures ∙ read-part bytes (s .args .place) 8 (omega arith) (s .pre))
     ∙ ones-value (take 8 (drop (s .args .place) bytes)) (below-take 8 (drop (s .args .place) bytes) (below-drop (s .args .place) bytes (λ i. k .shared-slice-known .given i .fits)))
+
+add-end : tie.Need-add-end
+add-end c = search needs
+
+sub-read-at : tie.Need-sub-read-at
+sub-read-at c = search needs
+
+part-read-at-start : tie.Need-part-read-at-start
+part-read-at-start c = search needs
+
+part-read-at-end : tie.Need-part-read-at-end
+part-read-at-end c = search needs
 
 read-at-requires : tie.Need-read-at-requires
 read-at-requires c κs = search needs
@@ -32,7 +44,7 @@ enum-known-read c = search needs
 cast-result : tie.Need-cast-result
 cast-result c =
     let k = c .before .before .before in
-    let a = k .before .before .args in
+    let a = k .before .before .before .args in
     omega (arith, sym (ap (λ (r : Read). ones (wordIn r)) (c .before .read .given .1)) ∙ there k, ones-most 8 (drop (a .place) (now (a .bytes))))
 
 enum-told : tie.Need-enum-told
@@ -56,6 +68,10 @@ pub ones-of-eight-spec : {M : Type 1} → statement M
 ones-of-eight-spec =
     tie.close
     (tie.spec
+    add-end
+    sub-read-at
+    part-read-at-start
+    part-read-at-end
     read-at-requires
     enum-known-read
     cast-result

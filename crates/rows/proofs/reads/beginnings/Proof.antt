@@ -6,10 +6,10 @@ use Rattle.rows.proofs.reads.beginnings.Statement.{statement}
 use Rattle.rows.proofs.reads.beginnings.Tie as tie
 
 abbrev Inv-loop : tie.InvT-loop
-Inv-loop kind bytes k₀ k = k ≤ length bytes
+Inv-loop kind format bytes k₀ k = k ≤ length bytes
 
 abbrev μ-loop : tie.MeasureT-loop
-μ-loop kind bytes k₀ k = length bytes - k
+μ-loop kind format bytes k₀ k = length bytes - k
 
 pub beginnings-spec : {M : Type 1} → statement M
 beginnings-spec =

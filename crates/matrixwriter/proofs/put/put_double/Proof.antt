@@ -1,4 +1,4 @@
--- `matrixwriter::put::put_header` meets its contract: lawful fields fit in their bytes. Assumes nothing.
+-- `matrixwriter::put::put_double` meets its contract: lawful fields fit in their bytes. Assumes nothing.
 use Prim.Native.Nat.{_≤_, _<_}
 use native.Mathlib.Omega.{arith}
 use denote.Ref.{now}
@@ -6,10 +6,10 @@ use lib.ListN.{length, length-set}
 use Rattle.matrix.specs.Header.{control1, control2}
 use Rattle.matrix.proofs.ControlBytes.{control1-byte, control2-byte}
 use Rattle.matrix.proofs.Header.{header-two}
-use Rattle.matrixwriter.proofs.Putting.{header-put}
+use Rattle.matrixwriter.proofs.Putting.{double-put}
 use borrow.Author.Needs.{needs}
-use Rattle.matrixwriter.proofs.put.put_header.Statement.{statement}
-use Rattle.matrixwriter.proofs.put.put_header.Tie as tie
+use Rattle.matrixwriter.proofs.put.put_double.Statement.{statement}
+use Rattle.matrixwriter.proofs.put.put_double.Tie as tie
 
 -- the control bytes are bytes
 byte1 : (s : tie.Start) → control1 (s .args .f) < 256
@@ -19,7 +19,7 @@ byte2 : (s : tie.Start) → control2 (s .args .f) < 256
 byte2 s = control2-byte (s .args .f) (s .pre .0)
 
 room : (s : tie.Start) → 3 ≤ length (now (s .args .out))
-room s = omega (arith, s .pre .1, header-two (s .args .f))
+room s = omega (arith, s .pre .1 .1, header-two (s .args .f) (s .pre .1 .0))
 
 bit-of-requires : tie.Need-bit-of-requires
 bit-of-requires c κs = search needs
@@ -77,10 +77,10 @@ returns c =
     let d = c .before .before in
     let e = d .before .before in
     let s = e .before .before .before in
-    header-put (s .args .f) (now (s .args .out)) _ _ (omega (arith, e .before .bit-of .ensures, e .bit-of2 .ensures)) (omega (arith, d .bit-of3 .ensures)) (s .pre .1)
+    double-put (s .args .f) (now (s .args .out)) _ _ (s .pre .1 .0) (omega (arith, e .before .bit-of .ensures, e .bit-of2 .ensures)) (omega (arith, d .bit-of3 .ensures)) (s .pre .1 .1)
 
-pub put-header-spec : {M : Type 1} → statement M
-put-header-spec =
+pub put-double-spec : {M : Type 1} → statement M
+put-double-spec =
     tie.close
     (tie.spec
     bit-of-requires
