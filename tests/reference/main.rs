@@ -7,6 +7,7 @@
 //     reference rows               the verdicts on rows of pack bytes
 //     reference make-rows          the rows that the project runs
 //     reference make-again         rows of the packs of lines that are OK, to be written again
+//     reference make-cuts          rows of Mode 1 packs to be cut after every byte
 //     reference make-lines         lines of frames at the edges of every rule
 //     reference corpus SEED COUNT  lines of frames, good and bad, from a seed
 //     reference tally              how often each word and reason occurs in a report
@@ -60,7 +61,7 @@ fn tally(input: &mut dyn BufRead, output: &mut dyn Write) -> io::Result<()> {
 
 fn usage() -> ! {
     eprintln!(
-        "usage: reference report | rows | make-rows | make-again | make-lines | corpus SEED COUNT | tally | check SEED COUNT"
+        "usage: reference report | rows | make-rows | make-again | make-cuts | make-lines | corpus SEED COUNT | tally | check SEED COUNT"
     );
     std::process::exit(2);
 }
@@ -80,6 +81,7 @@ fn main() {
         Some("rows") => rows::run(&mut input, &mut output),
         Some("make-rows") => rows::make(&mut output),
         Some("make-again") => writes::again(&mut input, &mut output),
+        Some("make-cuts") => mode1::cuts(&mut output),
         Some("make-lines") => lines::make(&mut output),
         Some("corpus") => corpus::print(number(1), number(2), &mut output),
         Some("tally") => tally(&mut input, &mut output),

@@ -2,8 +2,10 @@
 // the stated format.
 
 use crate::corpus::greatest_word;
+use crate::frame::hex_of_bytes;
 use crate::matrix::{coefficient_count, lawful_controls, vector_length, Control, Role};
 use crate::rows::{vector, whole_matrix, whole_pack, words_about, Rows, TABLE};
+use std::io::{self, Write};
 
 /// All that the single byte of an N by N pack may say.
 pub fn controls(n: usize, stated: bool) -> Vec<Control> {
@@ -49,6 +51,21 @@ pub fn shapes(n: usize, stated: bool) -> Vec<(Control, Vec<u8>)> {
         }
     }
     list
+}
+
+/// A whole pack of every control byte that these sizes may have, under both formats, as rows that
+/// are cut after every byte: too many lines to be stored.
+pub fn cuts(output: &mut dyn Write) -> io::Result<()> {
+    for (stated, mark) in [(false, ' '), (true, '*')] {
+        for n in [1, 2, 3, 16, 17, 64] {
+            for control in controls(n, stated) {
+                let ones = &ones(n, &control)[0];
+                let pack = whole_pack(n, &control, ones.as_deref());
+                writeln!(output, "s{}{}", mark, hex_of_bytes(&pack))?;
+            }
+        }
+    }
+    Ok(())
 }
 
 fn table(rows: &mut Rows) {

@@ -17,7 +17,7 @@ use Rattle.matrix.specs.Machine.{enter, runBytes, verdictOf}
 use Rattle.theorems.proofs.MatrixVerdicts.{matrix-said}
 use Rattle.array.specs.Machine.{verdictOf as arrayVerdictOf}
 use Rattle.theorems.proofs.ArrayVerdicts.{array-said}
-use Rattle.theorems.specs.Rows.{Kind, matrix, array, Row, under, doubleRows, aloneRows, singleRows, ieeeRows, mappedRows, arrayRows, rows, SaysOf, Said}
+use Rattle.theorems.specs.Rows.{Kind, matrix, array, Row, under, column, tellingRows, doubleRows, singleRows, ieeeRows, mappedRows, arrayRows, rows, SaysOf, Said}
 
 abbrev verdictBy : Kind → List ℕ → Verdict
 verdictBy (matrix told) = verdictOf told
@@ -50,5 +50,5 @@ run-said (r ∷ rs) b e = (
 )
 
 pub rows-said : Said rows
-unfolding rows under doubleRows aloneRows singleRows ieeeRows mappedRows arrayRows run judged enter runBytes sum digits
+unfolding rows under column tellingRows doubleRows singleRows ieeeRows mappedRows arrayRows run judged enter runBytes sum digits
 rows-said = run-said rows refl refl

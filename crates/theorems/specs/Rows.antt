@@ -25,6 +25,13 @@ pub record Packed : Type 0 where
   pub packed : List ℕ
   pub answer : Verdict
 
+-- bytes, and what is to be said of them where Mode 1 is not let in, where its deviations are IEEE, and where they are mapped
+pub record Telling : Type 0 where
+  pub bytes : List ℕ
+  pub alone : Verdict
+  pub ieee : Verdict
+  pub mapped : Verdict
+
 -- a kind of pack, bytes, and what is to be said of them
 pub record Row : Type 0 where
   pub kind : Kind
@@ -33,6 +40,9 @@ pub record Row : Type 0 where
 
 abbrev row : List ℕ → Verdict → Packed
 row bytes said = record { packed = bytes; answer = said }
+
+abbrev tells : List ℕ → Verdict → Verdict → Verdict → Telling
+tells bytes alone ieee mapped = record { bytes = bytes; alone = alone; ieee = ieee; mapped = mapped }
 
 abbrev arrayRow : List ℕ → Verdict → Row
 arrayRow bytes said = record { kind = array; bytes = bytes; said = said }
@@ -84,17 +94,22 @@ doubleRows =
     ∷ row (0x03 ∷ 0xB2 ∷ 0x04 ∷ 0xA0 ∷ 0x3F ∷ 0x80 ∷ 0 ∷ 0 ∷ 0x40 ∷ 0 ∷ 0 ∷ 0 ∷ 0x40 ∷ 0x80 ∷ 0 ∷ 0 ∷ 0x60 ∷ 0 ∷ 0x20 ∷ 0 ∷ []) (Complete 20)
     ∷ []
 
--- the rows of document 01 that tell the modes apart, where Mode 1 is not let in
-unfoldable pub aloneRows : List Packed
-aloneRows =
-    row [] (Unfinished 4)
-    ∷ row (0x01 ∷ []) (Unfinished 3)
-    ∷ row (0x02 ∷ []) (Unfinished 3)
-    ∷ row (0x03 ∷ []) (Unfinished 4)
-    ∷ row (0x10 ∷ []) (Unfinished 18)
-    ∷ row (0x11 ∷ []) (Unfinished 19)
-    ∷ row (0x40 ∷ []) (Unfinished 66)
-    ∷ row (0x02 ∷ 0x11 ∷ []) (refused Mode 1)
+-- bytes that tell modes and formats apart
+unfoldable pub tellingRows : List Telling
+tellingRows =
+    tells [] (Unfinished 4) (Unfinished 3) (Unfinished 3)
+    ∷ tells (0x01 ∷ []) (Unfinished 3) (Unfinished 3) (Unfinished 2)
+    ∷ tells (0x02 ∷ []) (Unfinished 3) (Unfinished 2) (Unfinished 2)
+    ∷ tells (0x03 ∷ []) (Unfinished 4) (Unfinished 3) (Unfinished 3)
+    ∷ tells (0x10 ∷ []) (Unfinished 18) (Unfinished 17) (Unfinished 17)
+    ∷ tells (0x11 ∷ []) (Unfinished 19) (Unfinished 19) (Unfinished 18)
+    ∷ tells (0x12 ∷ []) (Unfinished 20) (Unfinished 20) (Unfinished 19)
+    ∷ tells (0x40 ∷ []) (Unfinished 66) (Unfinished 66) (Unfinished 65)
+    ∷ tells (0x02 ∷ 0x11 ∷ []) (refused Mode 1) (refused ValueLength 1) (Unfinished 3)
+    ∷ tells (0x01 ∷ 0x10 ∷ []) (refused Mode 1) (refused ValueLength 1) (Unfinished 1)
+    ∷ tells (0x01 ∷ 0x70 ∷ []) (refused Mode 1) (refused ValueLength 1) (Unfinished 7)
+    ∷ tells (0x01 ∷ 0x18 ∷ []) (refused Mode 1) (refused ValueLength 1) (refused Sparse 1)
+    ∷ tells (0x01 ∷ 0x19 ∷ []) (refused Mode 1) (refused ValueLength 1) (refused SizeOne 1)
     ∷ []
 
 -- Mode 1, whichever format is stated
@@ -120,51 +135,25 @@ singleRows =
     ∷ row (0x01 ∷ 0x40 ∷ 0x7F ∷ 0x7F ∷ 0xFF ∷ 0xFF ∷ []) (Complete 6)
     ∷ []
 
--- Mode 1 with IEEE deviations, and what is missing of either mode
+-- Mode 1 with IEEE deviations
 unfoldable pub ieeeRows : List Packed
 ieeeRows =
-    row [] (Unfinished 3)
-    ∷ row (0x01 ∷ []) (Unfinished 3)
-    ∷ row (0x02 ∷ []) (Unfinished 2)
-    ∷ row (0x03 ∷ []) (Unfinished 3)
-    ∷ row (0x10 ∷ []) (Unfinished 17)
-    ∷ row (0x11 ∷ []) (Unfinished 19)
-    ∷ row (0x12 ∷ []) (Unfinished 20)
-    ∷ row (0x40 ∷ []) (Unfinished 66)
-    ∷ row (0x02 ∷ 0x11 ∷ []) (refused ValueLength 1)
-    ∷ row (0x01 ∷ 0x10 ∷ []) (refused ValueLength 1)
-    ∷ row (0x01 ∷ 0x20 ∷ []) (Unfinished 2)
+    row (0x01 ∷ 0x20 ∷ []) (Unfinished 2)
     ∷ row (0x01 ∷ 0x30 ∷ []) (refused ValueLength 1)
     ∷ row (0x01 ∷ 0x40 ∷ []) (Unfinished 4)
     ∷ row (0x01 ∷ 0x50 ∷ []) (refused ValueLength 1)
     ∷ row (0x01 ∷ 0x60 ∷ []) (refused ValueLength 1)
-    ∷ row (0x01 ∷ 0x70 ∷ []) (refused ValueLength 1)
-    ∷ row (0x01 ∷ 0x18 ∷ []) (refused ValueLength 1)
-    ∷ row (0x01 ∷ 0x19 ∷ []) (refused ValueLength 1)
     ∷ row (0x01 ∷ 0x20 ∷ 0x7C ∷ []) (refused ValueRange 2)
     ∷ row (0x01 ∷ 0x40 ∷ 0x7F ∷ 0x80 ∷ []) (refused ValueRange 3)
     ∷ []
 
--- Mode 1 with mapped deviations, and what is missing of either mode
+-- Mode 1 with mapped deviations
 unfoldable pub mappedRows : List Packed
 mappedRows =
-    row [] (Unfinished 3)
-    ∷ row (0x01 ∷ []) (Unfinished 2)
-    ∷ row (0x02 ∷ []) (Unfinished 2)
-    ∷ row (0x03 ∷ []) (Unfinished 3)
-    ∷ row (0x10 ∷ []) (Unfinished 17)
-    ∷ row (0x11 ∷ []) (Unfinished 18)
-    ∷ row (0x12 ∷ []) (Unfinished 19)
-    ∷ row (0x40 ∷ []) (Unfinished 65)
-    ∷ row (0x02 ∷ 0x11 ∷ []) (Unfinished 3)
-    ∷ row (0x01 ∷ 0x10 ∷ []) (Unfinished 1)
-    ∷ row (0x01 ∷ 0x70 ∷ []) (Unfinished 7)
-    ∷ row (0x01 ∷ 0x10 ∷ 0x80 ∷ []) (Complete 3)
+    row (0x01 ∷ 0x10 ∷ 0x80 ∷ []) (Complete 3)
     ∷ row (0x01 ∷ 0x10 ∷ 0x81 ∷ []) (refused ValueRange 2)
     ∷ row (0x01 ∷ 0x70 ∷ 0x80 ∷ 0x00 ∷ 0x00 ∷ 0x00 ∷ 0x00 ∷ 0x00 ∷ 0x00 ∷ []) (Complete 9)
     ∷ row (0x01 ∷ 0x70 ∷ 0x80 ∷ 0x00 ∷ 0x00 ∷ 0x00 ∷ 0x00 ∷ 0x00 ∷ 0x01 ∷ []) (refused ValueRange 8)
-    ∷ row (0x01 ∷ 0x18 ∷ []) (refused Sparse 1)
-    ∷ row (0x01 ∷ 0x19 ∷ []) (refused SizeOne 1)
     ∷ row (0x01 ∷ 0x20 ∷ 0x80 ∷ 0x00 ∷ []) (Complete 4)
     ∷ []
 
@@ -201,11 +190,17 @@ unfoldable pub under : Told → List Packed → List Row
 under told [] = []
 under told (r ∷ rs) = record { kind = matrix told; bytes = r .packed; said = r .answer } ∷ under told rs
 
--- all of them
+-- one of the three answers of each
+unfoldable pub column : (Telling → Verdict) → List Telling → List Packed
+column said [] = []
+column said (t ∷ ts) = row (t .bytes) (said t) ∷ column said ts
+
+-- all of them: of Mode 2 alone, of both modes with each stated format, and of arrays
 unfoldable pub rows : List Row
 rows =
-    under (record { mode1 = false; mapped = false }) (doubleRows ++ aloneRows)
-    ++ (under (stating false) (doubleRows ++ (singleRows ++ ieeeRows)) ++ (under (stating true) (doubleRows ++ (singleRows ++ mappedRows)) ++ arrayRows))
+    under (record { mode1 = false; mapped = false }) (doubleRows ++ column (λ t. t .alone) tellingRows)
+    ++ (under (stating false) (doubleRows ++ (column (λ t. t .ieee) tellingRows ++ (singleRows ++ ieeeRows)))
+    ++ (under (stating true) (doubleRows ++ (column (λ t. t .mapped) tellingRows ++ (singleRows ++ mappedRows))) ++ arrayRows))
 
 -- what a verdict says of a kind's packs
 abbrev pub SaysOf : Kind → List ℕ → Verdict → Type 0
