@@ -1,5 +1,5 @@
-/* One row of the benchmark by one reader, so many times: bench ROW READER TIMES; bench check compares the readers on every row, and on packs of Mode 1 of
- * every control byte, cut and damaged. */
+/* One row of the benchmark by one reader, so many times: bench ROW READER TIMES; bench check compares the readers on every row, on packs of Mode 1 of
+ * every control byte, cut and damaged, and on the control bytes and fields of Mode 2. */
 #include <stdio.h>
 #include <stdlib.h>
 #include "../include/galimpukas.h"
@@ -216,6 +216,27 @@ static void compare_reads(void) {
         }
 }
 
+/* What the readers say of two control bytes of Mode 2, alone and with noughts behind them. */
+static void compare_controls(size_t n) {
+    struct row r = {.work = VERDICT};
+    memset(pack, 0, 64), pack[0] = n;
+    for (unsigned one = 0x80; one < 0x100; one++)
+        for (unsigned two = 0; two < 0xA0; two += two == 0x40 ? 0x40 : 1) {
+            pack[1] = one, pack[2] = two;
+            compare(&r, 3), compare(&r, 64);
+        }
+}
+
+/* What the writers say of fields of Mode 2: every flag with lengths on both sides of what is allowed. */
+static void compare_fields(size_t n) {
+    struct row r = {.work = WRITE};
+    for (size_t flags = 0; flags < 8; flags++)
+        for (size_t lengths = 0; lengths < 100; lengths++) {
+            matrix(2, n, flags & 1, flags >> 1 & 1, lengths % 10, flags >> 2, lengths / 10);
+            compare(&r, length);
+        }
+}
+
 static int check(void) {
     static const size_t sizes[] = {1, 2, 3, 6, 17};
     for (int k = 0; k < ROWS; k++) compare_row(&rows[k]);
@@ -225,6 +246,7 @@ static int check(void) {
             compare_writes();
             if (length >> 32 == 0) compare_reads();
         }
+    for (size_t n = 0; n < 4; n++) compare_controls(n), compare_fields(n);
     printf("%zu calls, %zu differ\n", calls, wrong);
     return wrong != 0;
 }

@@ -76,6 +76,7 @@ static inline uint64_t header(const uint8_t *b, size_t count, size_t format, str
     f->mode = 2, f->cs = one >> 5 & 1, f->cf = one >> 4 & 1, f->clen = one & 15;
     if (one & 0x40) return REFUSED(5, 1);
     if (!allowed(f->cf, f->clen)) return REFUSED(6, 1);
+    if (f->cf && f->clen == 0) return REFUSED(16, 1);
     if (f->cs && f->clen == 0) return REFUSED(7, 1);
     if (n == 1 && f->clen) return REFUSED(8, 1);
     if (count == 2) return UNFINISHED(1 + (f->cs ? v + lesser(f->clen, n) : f->clen ? m * f->clen : n));
@@ -84,6 +85,7 @@ static inline uint64_t header(const uint8_t *b, size_t count, size_t format, str
     if (two & 0x80) return REFUSED(4, 2);
     if (two & 0x60) return REFUSED(5, 2);
     if (!allowed(f->sf, f->slen)) return REFUSED(6, 2);
+    if (f->sf && f->slen == 0) return REFUSED(16, 2);
     if (f->slen == 0 && f->clen == 0) return REFUSED(9, 2);
     return GO_ON;
 }
@@ -98,9 +100,11 @@ static inline unsigned judge_fields(struct fields f, size_t format) {
     if (f.n == 0) return 1;
     if (f.n > 64) return 2;
     if (f.mode == 1 ? f.clen > 7 : !allowed(f.cf, f.clen)) return 6;
+    if (f.mode == 2 && f.cf && f.clen == 0) return 16;
     if (f.cs && f.clen == 0) return 7;
     if (f.n == 1 && f.clen) return 8;
     if (f.mode == 1 ? f.slen > 7 || !allowed(format, f.slen) : !allowed(f.sf, f.slen)) return 6;
+    if (f.mode == 2 && f.sf && f.slen == 0) return 16;
     if (f.slen == 0 && f.clen == 0) return 9;
     return 0;
 }

@@ -32,7 +32,8 @@ enum galimpukas_reason {
     GALIMPUKAS_PROCESSING = 12,    /* element processing other than 1 */
     GALIMPUKAS_SMALL_BUFFER = 13,  /* a lent output is too short */
     GALIMPUKAS_DISAGREE = 14,      /* what a call is given does not fit together */
-    GALIMPUKAS_INDEX = 15          /* no such element */
+    GALIMPUKAS_INDEX = 15,         /* no such element */
+    GALIMPUKAS_FORMAT_ALONE = 16   /* Mode 2: Cf is 1 and Clen is 0, or Sf is 1 and Slen is 0 */
 };
 
 /* 1 if the answer is complete: its value is a length, a count of bytes written, or an offset. */
@@ -57,7 +58,8 @@ enum galimpukas_format { GALIMPUKAS_IEEE = 0, GALIMPUKAS_MAPPED = 1 };
 #define GALIMPUKAS_LONGEST_MATRIX 16895
 #define GALIMPUKAS_LONGEST_ARRAY 32781
 
-/* Places in the seven fields of a matrix; the last is the mode of its Parse Control, 1 or 2. Of Mode 1, Cf is 1 and Sf the stated format, also beside length 0. */
+/* Places in the seven fields of a matrix; the last is the mode of its Parse Control, 1 or 2. Of Mode 1, Cf is 1 and Sf the stated format, also beside length 0; of
+ * Mode 2, Cf and Sf are 0 beside length 0. */
 enum {
     GALIMPUKAS_N,
     GALIMPUKAS_CS,
@@ -87,7 +89,7 @@ uint64_t matrix_expand(const uint8_t *bytes, size_t count, size_t format, uint64
 
 /* A matrix pack from seven fields, N deviations, M coefficients and M marks: the count of bytes written, or a refusal. Fewer than seven fields, a Cs, Cf or Sf
  * above 1 and a mode other than 1 or 2 are 14 before all else. Mode 1 takes lengths up to 7, Cf 1 and the stated format as Sf: a longer length is 6, and another
- * Cf or Sf is 14, with the causes of 14 that lie in the lists. */
+ * Cf or Sf is 14, with the causes of 14 that lie in the lists. In Mode 2 a Cf or Sf of 1 beside length 0 is 16, behind 6 of that length. */
 uint64_t matrix_write(const size_t *fields, size_t fields_count, size_t format, const uint64_t *deviations, size_t deviations_count,
                       const uint64_t *coefficients, size_t coefficients_count, const uint8_t *marks, size_t marks_count,
                       uint8_t *out, size_t out_count);

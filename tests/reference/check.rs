@@ -6,7 +6,7 @@ use crate::frame::hex_of_bytes;
 use crate::matrix::{has_lawful_ending, lawful_word, Role};
 use crate::verdict::Verdict;
 use crate::writes::same_again;
-use crate::{array, matrix};
+use crate::{array, matrix, order};
 use std::io::{self, Write};
 
 /// The rule of a word, by the limits of the document.
@@ -46,13 +46,13 @@ fn single_byte(byte: u8, stated: bool) -> Option<Fields> {
     ))
 }
 
-/// The fields of Mode 2 (000, Table 2).
+/// The fields of Mode 2 (000, Table 2). A format flag that is 1 has values behind it.
 fn two_bytes(one: u8, two: u8) -> Option<Fields> {
     let (sparse, c_mapped, c_length) = (one & 0x20 != 0, one & 0x10 != 0, (one & 0x0F) as usize);
     let (s_mapped, s_length) = (two & 0x10 != 0, (two & 0x0F) as usize);
     let allowed = |mapped: bool, length: usize| {
         if mapped {
-            length <= 8
+            1 <= length && length <= 8
         } else {
             length == 0 || length == 2 || length == 4 || length == 8
         }
@@ -402,8 +402,15 @@ pub fn run(seed: u64, count: u64, output: &mut dyn Write) -> io::Result<()> {
             for n in 1..=4 {
                 compare(kind, &[n, first], 5);
             }
+            // Every second control byte behind first ones with and without their format flag.
+            for one in [0x80, 0x82, 0x90, 0x91, 0xA0, 0xB0, 0xB1] {
+                compare(kind, &[1, one, first], 3);
+                compare(kind, &[2, one, first], 3);
+            }
         }
     }
+    // What the writer of matrices answers, by the causes that hold.
+    order::compare();
     for first in 0..=255u8 {
         compare(&ARRAY, &[first], 6);
         for n in 1..=3 {

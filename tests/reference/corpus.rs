@@ -262,7 +262,10 @@ fn wrong_length(random: &mut Random, mode: u8, mapped: bool, above: usize) -> u8
     }
 }
 
-/// A matrix pack made to be refused for a reason from 1 to 11, where deviations are stated to be
+/// The reasons that a matrix pack is refused for.
+const MATRIX_REASONS: [usize; 12] = [1, 2, 3, 4, 5, 6, 7, 8, 9, 10, 11, 16];
+
+/// A matrix pack made to be refused for one of these reasons, where deviations are stated to be
 /// IEEE.
 fn bad_matrix(random: &mut Random, reason: usize) -> Vec<u8> {
     loop {
@@ -274,8 +277,8 @@ fn bad_matrix(random: &mut Random, reason: usize) -> Vec<u8> {
         let mut matrix = choose_matrix(random, scale, false);
         let m = coefficient_count(matrix.n);
         match reason {
-            // Mode 1 has neither a second byte nor a reserved bit.
-            4 | 5 if matrix.control.mode == 1 => continue,
+            // Mode 1 has neither a second byte, nor a reserved bit, nor a format flag.
+            4 | 5 | 16 if matrix.control.mode == 1 => continue,
             8 if matrix.n == 1 || matrix.control.c_length == 0 => continue,
             9 if random.one_in(2) => {
                 // A sparse pack without a 1 and without deviations.
@@ -283,6 +286,7 @@ fn bad_matrix(random: &mut Random, reason: usize) -> Vec<u8> {
                     continue;
                 }
                 matrix.control.sparse = true;
+                matrix.control.s_mapped = false;
                 matrix.control.s_length = 0;
                 matrix.marks = vec![false; m];
             }
@@ -305,18 +309,22 @@ fn bad_matrix(random: &mut Random, reason: usize) -> Vec<u8> {
             }
             (6, _) => bytes[2] = bytes[2] & 0xF0 | wrong_length(random, 2, control.s_mapped, 16),
             (7, 1) => bytes[1] = bytes[1] & 0x70 | 0x08,
-            (7, _) => bytes[1] = random.pick(&[0xA0, 0xB0]),
+            (7, _) => bytes[1] = 0xA0,
             (8, _) => bytes[0] = 1,
             (9, 1) if !control.sparse => bytes[1] = 0,
             (9, _) if !control.sparse => {
-                bytes[1] &= 0x90;
-                bytes[2] &= 0x10;
+                bytes[1] = 0x80;
+                bytes[2] = 0x00;
             }
             (10, mode) => {
                 let unused = vector_length(matrix.n) * 8 - m;
                 let last = mode as usize + vector_length(matrix.n);
                 bytes[last] |= 1 << random.below(unused);
             }
+            // Beside the other bits of its byte; the values stay, so that where there were none
+            // the flag alone is wrong.
+            (16, _) if on_first => bytes[1] = bytes[1] & 0xE0 | 0x10,
+            (16, _) => bytes[2] = 0x10,
             _ => {}
         }
         return bytes;
@@ -574,7 +582,7 @@ fn line(random: &mut Random) -> Vec<u8> {
         590..=789 => {
             let mut value = match kind {
                 Kind::Matrix => {
-                    let reason = random.between(1, 11);
+                    let reason = random.pick(&MATRIX_REASONS);
                     bad_matrix(random, reason)
                 }
                 Kind::Array => {

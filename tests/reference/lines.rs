@@ -56,6 +56,37 @@ fn every_single() -> Vec<Vec<u8>> {
     packs
 }
 
+/// Packs that are whole but for a format flag with nothing behind it, and that flag beside other
+/// faults of its byte.
+fn flag_alone() -> Vec<Vec<u8>> {
+    let alone = (true, 0);
+    let mut packs = Vec::new();
+    for s in formats() {
+        for n in [1, 2, 3] {
+            packs.push(whole_matrix(n, alone, s, None));
+        }
+    }
+    for c in formats() {
+        packs.push(whole_matrix(2, c, alone, None));
+        packs.push(whole_matrix(3, c, alone, Some(&vector(3, &[1]))));
+    }
+    for head in [
+        &[0x90][..],
+        &[0x90, 0x00],
+        &[0x90, 0x10],
+        &[0xB0],
+        &[0xD0],
+        &[0xF0],
+        &[0x80, 0x10],
+        &[0x80, 0x30],
+        &[0x80, 0x50],
+        &[0x80, 0x90],
+    ] {
+        packs.push([&[2], head].concat());
+    }
+    packs
+}
+
 /// The greatest packs.
 fn greatest() -> Vec<Vec<u8>> {
     let all: Vec<usize> = (0..2016).collect();
@@ -221,6 +252,11 @@ pub fn make(output: &mut dyn Write) -> io::Result<()> {
     );
     lines.extend(
         every_single()
+            .iter()
+            .map(|value| hex_of_bytes(&frame(&MATRIX_KEY, value)).into_bytes()),
+    );
+    lines.extend(
+        flag_alone()
             .iter()
             .map(|value| hex_of_bytes(&frame(&MATRIX_KEY, value)).into_bytes()),
     );

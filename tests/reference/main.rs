@@ -1,7 +1,8 @@
 // A reference implementation of the verdicts on packs and frames: the commands.
 //
-// It is written from the document of exact rules, the first of the changes to it (Mode 1) and the
-// standards alone, and shares nothing with the code that it is compared with.
+// It is written from the document of exact rules, the first and the seventh of the changes to it
+// (Mode 1, and a format flag with nothing behind it) and the standards alone, and shares nothing
+// with the code that it is compared with.
 //
 //     reference report             the report on lines of frames
 //     reference rows               the verdicts on rows of pack bytes
@@ -14,6 +15,7 @@
 //     reference check SEED COUNT   compares the verdicts with a search among all endings
 
 mod address;
+mod alone;
 mod array;
 mod check;
 mod corpus;
@@ -21,6 +23,7 @@ mod frame;
 mod lines;
 mod matrix;
 mod mode1;
+mod order;
 mod rows;
 mod values;
 mod verdict;

@@ -79,6 +79,11 @@ fn allowed_formats(mode: u8, stated: bool) -> &'static [(bool, bool)] {
     }
 }
 
+/// Whether a format flag stands with no values behind it. Mode 1 has no such flags.
+pub fn flag_alone(mode: u8, mapped: bool, length: usize) -> bool {
+    mode == 2 && mapped && length == 0
+}
+
 /// All that the control bytes of an N by N pack may say in a mode.
 pub fn lawful_controls(n: usize, mode: u8, stated: bool) -> Vec<Control> {
     let mut list = Vec::new();
@@ -86,6 +91,10 @@ pub fn lawful_controls(n: usize, mode: u8, stated: bool) -> Vec<Control> {
         for &c_length in allowed_lengths(mode, c_mapped) {
             for &s_length in allowed_lengths(mode, s_mapped) {
                 for sparse in [false, true] {
+                    if flag_alone(mode, c_mapped, c_length) || flag_alone(mode, s_mapped, s_length)
+                    {
+                        continue;
+                    }
                     if sparse && c_length == 0 {
                         continue;
                     }
@@ -295,6 +304,7 @@ fn control_reason(n: usize, control: &[u8], stated: bool) -> u32 {
         return first_that_holds(&[
             (last & 0x40 != 0, 5),
             (wrong(2, last & 0x10 != 0, length), 6),
+            (last & 0x10 != 0 && length == 0, 16),
             (last & 0x20 != 0 && length == 0, 7),
             (n == 1 && length > 0, 8),
         ]);
@@ -303,6 +313,7 @@ fn control_reason(n: usize, control: &[u8], stated: bool) -> u32 {
         (last & 0x80 != 0, 4),
         (last & 0x60 != 0, 5),
         (wrong(2, last & 0x10 != 0, length), 6),
+        (last & 0x10 != 0 && length == 0, 16),
         (length == 0 && control[0] & 0x0F == 0, 9),
     ])
 }

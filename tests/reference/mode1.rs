@@ -284,7 +284,7 @@ fn ends(rows: &mut Rows) {
         }
     }
     // Packs of Mode 2 with all their beginnings, under the format mapped.
-    for c in [(true, 0), (true, 2), (false, 4), (false, 8)] {
+    for c in [(false, 0), (true, 2), (false, 4), (false, 8)] {
         for s in [(true, 1), (true, 8), (false, 2), (false, 8)] {
             rows.under(true, 's', &whole_matrix(3, c, s, None));
             if c.1 > 0 {
@@ -314,7 +314,7 @@ fn again(rows: &mut Rows) {
             rows.under(stated, 'R', &whole_single(64, c, (stated, s), ones));
         }
     }
-    for c in [(true, 0), (true, 2), (false, 4), (false, 8)] {
+    for c in [(false, 0), (true, 2), (false, 4), (false, 8)] {
         for s in [(true, 1), (true, 8), (false, 2), (false, 8)] {
             rows.under(true, 'R', &whole_matrix(3, c, s, None));
         }

@@ -4,7 +4,7 @@ use crate::array::{octets, LIMIT};
 use crate::corpus::greatest_word;
 use crate::frame::{bytes_of_hex, hex_of_bytes};
 use crate::matrix::{allowed_lengths, coefficient_count, vector_length, Control, Role};
-use crate::{address, array, matrix, mode1, values, writes};
+use crate::{address, alone, array, matrix, mode1, values, writes};
 use std::collections::HashSet;
 use std::io::{self, BufRead, Write};
 
@@ -175,6 +175,9 @@ pub const TABLE: &[(char, &str)] = &[
     ('S', "03 B2 04 A0 3F800000 40000000 40800000 6000 2000"),
 ];
 
+/// The format of values that are not there, which Mode 2 has no flag for.
+pub const NONE: (bool, usize) = (false, 0);
+
 /// The formats of values that are there in Mode 2: mapped or not, with the length.
 pub fn formats() -> Vec<(bool, usize)> {
     let mut list = Vec::new();
@@ -274,8 +277,6 @@ pub fn vector(n: usize, ones: &[usize]) -> Vec<u8> {
     bytes
 }
 
-const NONE: (bool, usize) = (false, 0);
-
 fn matrix_sizes_and_controls(rows: &mut Rows) {
     for byte in 0..=255u8 {
         rows.add('S', &[byte]);
@@ -294,17 +295,15 @@ fn matrix_sizes_and_controls(rows: &mut Rows) {
             rows.add('S', &[n, byte]);
         }
     }
-    for (n, firsts) in [(1, [0x80, 0x90]), (2, [0x80, 0x91]), (3, [0x90, 0xB1])] {
-        for first in firsts {
-            for byte in 0..=255u8 {
-                rows.add('S', &[n, first, byte]);
-            }
+    for (n, first) in [(1, 0x80), (2, 0x80), (2, 0x91), (3, 0xB1)] {
+        for byte in 0..=255u8 {
+            rows.add('S', &[n, first, byte]);
         }
     }
     // Every lawful pair of control bytes in some sizes.
     for n in [2, 4, 64] {
         for c in formats() {
-            for s in formats().into_iter().chain([(true, 0), (false, 0)]) {
+            for s in formats().into_iter().chain([NONE]) {
                 for sparse in [false, true] {
                     rows.add('S', &[n, control_1(sparse, c.0, c.1), control_2(s.0, s.1)]);
                 }
@@ -315,16 +314,14 @@ fn matrix_sizes_and_controls(rows: &mut Rows) {
 
 fn matrix_formats(rows: &mut Rows) {
     for s in formats() {
-        for c_mapped in [false, true] {
-            rows.add('S', &whole_matrix(1, (c_mapped, 0), s, None));
-            rows.add('S', &whole_matrix(3, (c_mapped, 0), s, None));
-        }
+        rows.add('S', &whole_matrix(1, NONE, s, None));
+        rows.add('S', &whole_matrix(3, NONE, s, None));
     }
     for c in formats() {
-        for s in formats().into_iter().chain([(true, 0), (false, 0)]) {
+        for s in formats().into_iter().chain([NONE]) {
             rows.add('S', &whole_matrix(2, c, s, None));
         }
-        for s in [(true, 0), (true, 1), (false, 2), (false, 8)] {
+        for s in [NONE, (true, 1), (false, 2), (false, 8)] {
             rows.add('S', &whole_matrix(3, c, s, Some(&[0xA0])));
         }
     }
@@ -439,7 +436,7 @@ fn matrix_vectors(rows: &mut Rows) {
     for n in [2usize, 3, 4, 5, 6, 16] {
         let m = coefficient_count(n);
         let all: Vec<usize> = (0..m).collect();
-        for s in [NONE, (true, 0), (true, 1), (false, 4)] {
+        for s in [NONE, (true, 1), (false, 4)] {
             let c = if n == 4 { (false, 2) } else { (true, 1) };
             let head = [n as u8, control_1(true, c.0, c.1), control_2(s.0, s.1)];
             // Each unused bit, beside a coefficient's bit and alone.
@@ -512,17 +509,17 @@ fn matrix_ends_and_beginnings(rows: &mut Rows) {
     rows.add('s', &whole_matrix(3, (true, 2), (false, 4), None));
 
     // Every beginning of packs of several sizes and formats.
-    rows.add('s', &whole_matrix(1, (false, 0), (true, 1), None));
-    rows.add('s', &whole_matrix(1, (true, 0), (true, 8), None));
-    rows.add('s', &whole_matrix(1, (true, 0), (false, 8), None));
+    rows.add('s', &whole_matrix(1, NONE, (true, 1), None));
+    rows.add('s', &whole_matrix(1, NONE, (true, 8), None));
+    rows.add('s', &whole_matrix(1, NONE, (false, 8), None));
     for n in [2usize, 3, 16, 17] {
         let m = coefficient_count(n);
         let few = vector(n, &[m - 1]);
         let some: Vec<usize> = (0..m).filter(|i| i % 3 == 1 || *i == 0).collect();
-        rows.add('s', &whole_matrix(n, (true, 1), (true, 0), None));
+        rows.add('s', &whole_matrix(n, (true, 1), NONE, None));
         rows.add('s', &whole_matrix(n, (true, 2), (false, 4), None));
         rows.add('s', &whole_matrix(n, (false, 4), NONE, None));
-        rows.add('s', &whole_matrix(n, (true, 0), (true, 3), None));
+        rows.add('s', &whole_matrix(n, NONE, (true, 3), None));
         rows.add('s', &whole_matrix(n, (true, 1), NONE, Some(&few)));
         rows.add('s', &whole_matrix(n, (false, 8), (true, 1), Some(&few)));
         rows.add(
@@ -535,7 +532,7 @@ fn matrix_ends_and_beginnings(rows: &mut Rows) {
         );
     }
     rows.add('s', &whole_matrix(64, (true, 1), (true, 1), None));
-    rows.add('s', &whole_matrix(64, (false, 0), (true, 1), None));
+    rows.add('s', &whole_matrix(64, NONE, (true, 1), None));
     rows.add(
         's',
         &whole_matrix(64, (true, 1), NONE, Some(&vector(64, &[2015]))),
@@ -838,6 +835,7 @@ pub fn make(output: &mut dyn Write) -> io::Result<()> {
     array_elements(&mut rows);
     array_bodies(&mut rows);
     mode1::make(&mut rows);
+    alone::make(&mut rows);
     rows.print(output)?;
     let others = [address::make(), values::make(), writes::make()];
     for row in others.iter().flatten() {

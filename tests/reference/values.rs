@@ -3,7 +3,7 @@
 use crate::frame::{bytes_of_hex, hex_of_bytes};
 use crate::matrix::{self, coefficient_count, vector_length, Control};
 use crate::mode1::{shapes, whole_single};
-use crate::rows::{formats, letters, stated, vector, whole_matrix};
+use crate::rows::{formats, letters, stated, vector, whole_matrix, NONE};
 use crate::verdict::Verdict;
 
 /// The values of a whole matrix pack; a coefficient not sent is its format's nought.
@@ -232,7 +232,29 @@ fn add_two_bytes_under_mapped(rows: &mut Vec<String>) {
     }
 }
 
-const NONE: (bool, usize) = (false, 0);
+/// A format flag with nothing behind it, in packs that are whole without it and in cut ones: the
+/// verdict comes before 13, and nothing changes.
+fn add_flag_alone(rows: &mut Vec<String>) {
+    let few = vector(3, &[1]);
+    for (stated, pack) in [
+        (false, whole_matrix(1, (true, 0), (true, 1), None)),
+        (true, whole_matrix(1, (true, 0), (false, 4), None)),
+        (false, whole_matrix(3, (true, 0), (true, 1), None)),
+        (true, whole_matrix(3, (true, 0), (false, 2), None)),
+        (false, whole_matrix(2, (true, 1), (true, 0), None)),
+        (true, whole_matrix(3, (false, 4), (true, 0), None)),
+        (false, whole_matrix(3, (true, 2), (true, 0), Some(&few))),
+        (true, whole_matrix(3, (false, 2), (true, 0), Some(&few))),
+        (false, vec![2, 0xB0]),
+        (false, vec![2, 0x90, 0x10]),
+        (false, vec![2, 0x80, 0x10]),
+    ] {
+        add_row(rows, 'U', stated, &pack, &[3, 3, 3]);
+        add_row(rows, 'U', stated, &pack, &[0, 0, 0]);
+        add_row(rows, 'E', stated, &pack, &[9, 9]);
+        add_row(rows, 'E', stated, &pack, &[0, 0]);
+    }
+}
 
 pub fn make() -> Vec<String> {
     let mut rows = Vec::new();
@@ -281,13 +303,7 @@ pub fn make() -> Vec<String> {
             add_lengths(&mut rows, false, &whole_matrix(n, NONE, s, None), true);
         }
     }
-    // A format bit beside length 0 is kept, and the noughts are 0.
-    add_lengths(
-        &mut rows,
-        false,
-        &bytes_of_hex(b"03901101FF80").unwrap()[..6],
-        true,
-    );
+    add_flag_alone(&mut rows);
     // The greatest size.
     let some: Vec<usize> = (0..2016).step_by(3).collect();
     add_lengths(

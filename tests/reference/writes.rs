@@ -3,25 +3,28 @@
 use crate::array::{octets, LIMIT};
 use crate::corpus::greatest_word;
 use crate::frame::{self, bytes_of_hex, hex_of_bytes};
-use crate::matrix::{self, allowed_lengths, coefficient_count, vector_length, Control, Role};
-use crate::rows::{formats, letters, stated};
+use crate::matrix::{
+    self, allowed_lengths, coefficient_count, flag_alone, vector_length, Control, Role,
+};
+use crate::order;
+use crate::rows::{formats, letters, stated, NONE};
 use crate::values::values;
 use crate::verdict::Verdict;
 use std::io::{self, BufRead, Write};
 
 /// What the writer of matrices is given, beside the stated format.
 #[derive(Clone)]
-struct Given {
-    mode: u8,
-    n: usize,
-    sparse: bool,
-    coefficients_mapped: bool,
-    coefficient_length: usize,
-    deviations_mapped: bool,
-    deviation_length: usize,
-    deviations: Vec<u64>,
-    coefficients: Vec<u64>,
-    marks: Vec<u8>,
+pub struct Given {
+    pub mode: u8,
+    pub n: usize,
+    pub sparse: bool,
+    pub coefficients_mapped: bool,
+    pub coefficient_length: usize,
+    pub deviations_mapped: bool,
+    pub deviation_length: usize,
+    pub deviations: Vec<u64>,
+    pub coefficients: Vec<u64>,
+    pub marks: Vec<u8>,
 }
 
 /// A word too long for its length is above every limit.
@@ -40,7 +43,7 @@ fn keeps(mapped: bool, length: usize, role: Role, word: u64) -> bool {
 
 /// The refusal, in the document's order, or the bytes. Mode 1 judges lengths by its own formats,
 /// whatever formats are given; that these are its own is one of the causes of 14.
-fn write_matrix(g: &Given, stated: bool, room: usize) -> Result<Vec<u8>, u32> {
+pub fn write_matrix(g: &Given, stated: bool, room: usize) -> Result<Vec<u8>, u32> {
     if g.mode != 1 && g.mode != 2 {
         return Err(14);
     }
@@ -65,6 +68,9 @@ fn write_matrix(g: &Given, stated: bool, room: usize) -> Result<Vec<u8>, u32> {
     if !allowed_lengths(g.mode, control.c_mapped).contains(&g.coefficient_length) {
         return Err(6);
     }
+    if flag_alone(g.mode, g.coefficients_mapped, g.coefficient_length) {
+        return Err(16);
+    }
     if g.sparse && g.coefficient_length == 0 {
         return Err(7);
     }
@@ -73,6 +79,9 @@ fn write_matrix(g: &Given, stated: bool, room: usize) -> Result<Vec<u8>, u32> {
     }
     if !allowed_lengths(g.mode, control.s_mapped).contains(&g.deviation_length) {
         return Err(6);
+    }
+    if flag_alone(g.mode, g.deviations_mapped, g.deviation_length) {
+        return Err(16);
     }
     if g.deviation_length == 0 && g.coefficient_length == 0 {
         return Err(9);
@@ -260,7 +269,7 @@ pub fn same_again(bytes: &[u8], stated: bool) -> bool {
     write_matrix(&given, stated, bytes.len()).as_deref() == Ok(bytes)
 }
 
-fn matrix_row(g: &Given, stated: bool, room: usize) -> String {
+pub fn matrix_row(g: &Given, stated: bool, room: usize) -> String {
     let mut bytes = vec![
         g.n as u8,
         g.sparse as u8,
@@ -290,7 +299,7 @@ fn array_row(sizes: &[u64], element: u64, count: usize, room: usize) -> String {
 }
 
 /// A matrix of three variables that the writer takes in Mode 2.
-fn good(c: (bool, usize), s: (bool, usize), marks: Option<[u8; 3]>) -> Given {
+pub fn good(c: (bool, usize), s: (bool, usize), marks: Option<[u8; 3]>) -> Given {
     let word = |i: u64, length: usize| if length == 0 { 0 } else { 0x11 + i };
     Given {
         mode: 2,
@@ -306,6 +315,18 @@ fn good(c: (bool, usize), s: (bool, usize), marks: Option<[u8; 3]>) -> Given {
     }
 }
 
+/// No coefficients, and in Mode 2 no flag for them.
+fn without_coefficients(g: &mut Given) {
+    g.coefficient_length = 0;
+    g.coefficients_mapped = g.coefficients_mapped && g.mode == 1;
+}
+
+/// No deviations, and in Mode 2 no flag for them.
+fn without_deviations(g: &mut Given) {
+    g.deviation_length = 0;
+    g.deviations_mapped = g.deviations_mapped && g.mode == 1;
+}
+
 /// Each makes one rule broken, where the others leave that possible: the reason, and the change.
 const SPOILS: &[Spoil] = &[
     (1, |g| g.n = 0),
@@ -314,14 +335,14 @@ const SPOILS: &[Spoil] = &[
     (6, |g| g.coefficient_length = 255),
     (7, |g| {
         g.sparse = true;
-        g.coefficient_length = 0;
+        without_coefficients(g);
     }),
     (8, |g| g.n = 1),
     (6, |g| g.deviation_length = 9),
     (6, |g| g.deviation_length = 16),
     (9, |g| {
-        g.deviation_length = 0;
-        g.coefficient_length = 0;
+        without_deviations(g);
+        without_coefficients(g);
         g.marks = vec![0; 3];
     }),
     (14, |g| g.deviations.truncate(2)),
@@ -334,12 +355,12 @@ const SPOILS: &[Spoil] = &[
         g.marks[0] = 0;
     }),
     (14, |g| {
-        g.coefficient_length = 0;
+        without_coefficients(g);
         g.marks[1] = 1;
     }),
     (9, |g| {
         g.sparse = true;
-        g.deviation_length = 0;
+        without_deviations(g);
         g.marks = vec![0; 3];
     }),
     (11, |g| g.deviations[0] = u64::MAX),
@@ -392,7 +413,7 @@ fn matrices(rows: &mut Vec<String>) {
     }
     // Every format and length, with the greatest word and the one above it, and what is ignored.
     for c in formats() {
-        for s in [(true, 0), (true, 1), (false, 4)] {
+        for s in [NONE, (true, 1), (false, 4)] {
             for marks in [None, Some([0, 1, 1]), Some([1, 1, 1])] {
                 let mut g = good(c, s, marks);
                 add_rooms(rows, &g, false);
@@ -426,10 +447,10 @@ fn matrices(rows: &mut Vec<String>) {
         }
     }
     // One variable; lists longer than needed; deviations that are ignored.
-    let mut one = good((true, 0), (true, 1), None);
+    let mut one = good(NONE, (true, 1), None);
     one.n = 1;
     add_rooms(rows, &one, false);
-    let mut longer = good((true, 2), (false, 0), Some([0, 0, 1]));
+    let mut longer = good((true, 2), NONE, Some([0, 0, 1]));
     longer.deviations.push(u64::MAX);
     longer.coefficients.push(u64::MAX);
     longer.marks.push(255);
@@ -644,6 +665,7 @@ pub fn make() -> Vec<String> {
         single_words(&mut rows, stated);
     }
     two_bytes_under_mapped(&mut rows);
+    rows.extend(order::make());
     let mut seen = std::collections::HashSet::new();
     rows.retain(|row| seen.insert(row.clone()));
     rows

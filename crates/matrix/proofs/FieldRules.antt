@@ -1,7 +1,7 @@
 -- The rules of the fields are kept exactly where the fields are lawful. Assumes nothing.
 use Prim.Native.Nat.{ℕ, _≤_}
-use mathlib.Core.Path.{_≡_}
-use mathlib.Core.Bool.{Bool, _&&_, _||_, true, false, cond}
+use mathlib.Core.Path.{_≡_, ap, _∙_}
+use mathlib.Core.Bool.{Bool, _&&_, _||_, true, false, cond, and-false}
 use mathlib.Core.List.{List, _∷_}
 use native.Mathlib.Omega.{arith}
 use borrow.Author.Tests.{eqb-true, eqb-false, eq-eqb, ne-eqb, ltb-false, le-ltb, not-false}
@@ -13,7 +13,7 @@ use Rattle.verdict.specs.Rows.{Row}
 use Rattle.rule.specs.Rules.{allowed}
 use Rattle.matrix.specs.declared.Fields.{Fields}
 use Rattle.matrix.specs.declared.Told.{Told}
-use Rattle.matrix.specs.Meaning.{LawfulFirst, LawfulFields, Fits}
+use Rattle.matrix.specs.Meaning.{alone, LawfulFirst, LawfulFields, Fits}
 use Rattle.matrix.specs.Table.{singleRows, coefficientRows, deviationRows, roomRow, formatted, fieldRows}
 
 module _ (f : Fields) where
@@ -23,37 +23,44 @@ module _ (f : Fields) where
         size-least = h;
         size-most = g;
         coefficient-length = not-false (allowed (f .cf) (f .clen)) (k .0);
-        sparse = λ e. omega (arith, eqb-false (f .clen) 0 (and-right (f .cs) (eqb (f .clen) 0) (k .1 .0) e));
-        size-one = λ e. omega (arith, ltb-false 0 (f .clen) (and-right (eqb (f .n) 1) (ltb 0 (f .clen)) (k .1 .1 .0) (eq-eqb (f .n) 1 e)));
+        coefficient-flag = k .1 .0;
+        sparse = λ e. omega (arith, eqb-false (f .clen) 0 (and-right (f .cs) (eqb (f .clen) 0) (k .1 .1 .0) e));
+        size-one = λ e. omega (arith, ltb-false 0 (f .clen) (and-right (eqb (f .n) 1) (ltb 0 (f .clen)) (k .1 .1 .1 .0) (eq-eqb (f .n) 1 e)));
       }
 
   pub lawful-coefficients : LawfulFirst f → Kept (coefficientRows f)
   lawful-coefficients g =
       let sparse : f .cs && eqb (f .clen) 0 ≡ false = either (f .cs) (λ e. rw (e, ne-eqb (f .clen) 0 (λ z. omega (arith, g .sparse e)))) (λ e. rw e) in
       let one : eqb (f .n) 1 && ltb 0 (f .clen) ≡ false = either (eqb (f .n) 1) (λ e. rw (e, le-ltb 0 (f .clen) (omega (arith, g .size-one (eqb-true (f .n) 1 e))))) (λ e. rw e) in
-      (rw (g .coefficient-length), (sparse, (one, tt)))
+      (rw (g .coefficient-length), (g .coefficient-flag, (sparse, (one, tt))))
 
   pub deviations-lawful : LawfulFirst f → Kept (deviationRows f) → LawfulFields f
   deviations-lawful g k =
       record {
         first = g;
         deviation-length = not-false (allowed (f .sf) (f .slen)) (k .0);
-        some-length = either (eqb (f .slen) 0) (λ e. omega (arith, eqb-false (f .clen) 0 (and-right (eqb (f .slen) 0) (eqb (f .clen) 0) (k .1 .0) e))) (λ e. omega (arith, eqb-false (f .slen) 0 e));
+        deviation-flag = k .1 .0;
+        some-length = either (eqb (f .slen) 0) (λ e. omega (arith, eqb-false (f .clen) 0 (and-right (eqb (f .slen) 0) (eqb (f .clen) 0) (k .1 .1 .0) e))) (λ e. omega (arith, eqb-false (f .slen) 0 e));
       }
 
   pub lawful-deviations : LawfulFields f → Kept (deviationRows f)
   lawful-deviations g =
-      (rw (g .deviation-length), (either (eqb (f .slen) 0) (λ e. rw (e, ne-eqb (f .clen) 0 (λ z. omega (arith, g .some-length, eqb-true (f .slen) 0 e)))) (λ e. rw e), tt))
+      (rw (g .deviation-length), (g .deviation-flag, (either (eqb (f .slen) 0) (λ e. rw (e, ne-eqb (f .clen) 0 (λ z. omega (arith, g .some-length, eqb-true (f .slen) 0 e)))) (λ e. rw e), tt)))
 
-  -- Mode 1's control byte has the rules of both
-  pub single-lawful : 1 ≤ f .n → f .n ≤ 64 → Kept (singleRows f) → LawfulFields f
-  single-lawful h g k = deviations-lawful (coefficients-lawful h g (k .0, (k .1 .1 .0, (k .1 .1 .1 .0, tt)))) (k .1 .0, k .1 .1 .1 .1)
+  -- Mode 1 has no flags that could stand alone
+  never-alone : f .mode1 ≡ true → (mapped : Bool) (length : ℕ) → alone (f .mode1) mapped length ≡ false
+  never-alone e mapped length = ap (λ (one : Bool). alone one mapped length) e ∙ and-false (mapped && eqb length 0)
+
+  -- its control byte has the other rules of both
+  pub single-lawful : f .mode1 ≡ true → 1 ≤ f .n → f .n ≤ 64 → Kept (singleRows f) → LawfulFields f
+  single-lawful e h g k =
+      deviations-lawful (coefficients-lawful h g (k .0, (never-alone e (f .cf) (f .clen), (k .1 .1 .0, (k .1 .1 .1 .0, tt))))) (k .1 .0, (never-alone e (f .sf) (f .slen), k .1 .1 .1 .1))
 
   pub lawful-single : LawfulFields f → Kept (singleRows f)
   lawful-single g =
       let c = lawful-coefficients (g .first) in
       let d = lawful-deviations g in
-      (c .0, (d .0, (c .1 .0, (c .1 .1 .0, d .1))))
+      (c .0, (d .0, (c .1 .1 .0, (c .1 .1 .1 .0, d .1 .1))))
 
 -- the rules of fields that are given, in the formats that they are judged by
 module _ (mapped : Bool) (f : Fields) where

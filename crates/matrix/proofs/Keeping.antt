@@ -113,15 +113,15 @@ nears-double n = either (eqb n 1) (λ e. without (rw e (sym (eqb-true n 1 e)))) 
     byte b h t k e = (b, h, t, near-kept (2 + leastFor 1 n) (control1Rows (first n b) b) (on (control2 (first n b))) k (omega arith))
 
     without : leastFor 1 n ≡ n → DoubleByte n
-    without e = byte 0x80 (lit< tt) refl (refl, (refl, (refl, (refl, (and-false (eqb n 1), tt))))) e
+    without e = byte 0x80 (lit< tt) refl (refl, (refl, (refl, (refl, (refl, (and-false (eqb n 1), tt)))))) e
 
     many : (n ≡ 1 → ⊥) → leastFor 1 n ≡ min (n * 1) (min (pairs n) ((pairs n + 7) / 8 + 1)) → DoubleByte n
     many ne e =
         let one : eqb n 1 && true ≡ false = rw (ne-eqb n 1 ne) in
         either (ltb n (min (pairs n) ((pairs n + 7) / 8 + 1))) (λ t. without (omega (arith, ltb-true n _ t)))
         (λ f. either (ltb (pairs n) ((pairs n + 7) / 8 + 1))
-        (λ t. byte 0x91 (lit< tt) refl (refl, (refl, (refl, (refl, (one, tt))))) (omega (arith, ltb-true (pairs n) _ t, ltb-false n _ f)))
-        (λ s. byte 0xB1 (lit< tt) refl (refl, (refl, (refl, (refl, (one, tt))))) (omega (arith, ltb-false (pairs n) _ s, ltb-false n _ f))))
+        (λ t. byte 0x91 (lit< tt) refl (refl, (refl, (refl, (refl, (refl, (one, tt)))))) (omega (arith, ltb-true (pairs n) _ t, ltb-false n _ f)))
+        (λ s. byte 0xB1 (lit< tt) refl (refl, (refl, (refl, (refl, (refl, (one, tt)))))) (omega (arith, ltb-false (pairs n) _ s, ltb-false n _ f))))
 
 pow-some : (n : ℕ) → 0 < 256 ^ n
 pow-some n = one-le-pow n 256 (lit< tt)
@@ -203,7 +203,8 @@ nears-word more sign top run runs g =
 pub second-kept : (f : Fields) (b : ℕ) → LawfulFirst f → Kept (control2Rows (second f b) b) → LawfulFields (second f b)
 second-kept f b g k =
     deviations-lawful (second f b)
-    (record { size-least = g .size-least; size-most = g .size-most; coefficient-length = g .coefficient-length; sparse = g .sparse; size-one = g .size-one }) (k .1 .1)
+    (record { size-least = g .size-least; size-most = g .size-most; coefficient-length = g .coefficient-length; coefficient-flag = g .coefficient-flag; sparse = g .sparse; size-one = g .size-one })
+    (k .1 .1)
 
 -- a pack with coefficients has two variables or more
 pub two-sizes : (f : Fields) → LawfulFirst f → 0 < f .clen → 2 ≤ f .n
@@ -288,10 +289,10 @@ nears-control2 f g = either (f .cs) sparse full
         (b, h, near-kept (1 + leastValues f) (control2Rows (second f b) b) (enterValues (second f b) (vectorBytes f)) k (values-nears (second f b) (1 + leastValues f) (second-kept f b g k) (λ e. omega (arith, full e)) (λ e. omega (arith, sparse e))))
 
     with-none : 0 < f .clen → Kept (control2Rows (second f 0) 0)
-    with-none h = (refl, (refl, (refl, (ne-eqb (f .clen) 0 (λ e. omega arith), tt))))
+    with-none h = (refl, (refl, (refl, (refl, (ne-eqb (f .clen) 0 (λ e. omega arith), tt)))))
 
     with-one : Kept (control2Rows (second f 0x11) 0x11)
-    with-one = (refl, (refl, (refl, (refl, tt))))
+    with-one = (refl, (refl, (refl, (refl, (refl, tt)))))
 
     sparse : f .cs ≡ true → Near (control2 f)
     sparse e =
@@ -309,7 +310,7 @@ nears-control2 f g = either (f .cs) sparse full
 
 -- what the rules of Mode 1's control byte leave
 pub single-kept : (told : Told) (n b : ℕ) → (1 ≤ n) × (n ≤ 64) → Kept (singleRows (single told n b)) → LawfulFields (single told n b)
-single-kept told n b g k = single-lawful (single told n b) (g .0) (g .1) k
+single-kept told n b g k = single-lawful (single told n b) refl (g .0) (g .1) k
 
 -- a deviation that has bytes has the fewest of its format at least
 shortest-least : (mapped : Bool) (length : ℕ) → allowed mapped length ≡ true → 0 < length → shortest mapped ≤ length

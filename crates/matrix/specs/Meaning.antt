@@ -1,9 +1,10 @@
 -- What a matrix pack means, and the rules that a lawful meaning keeps.
 use Prim.Native.Nat.{ℕ, _+_, _-_, _*_, _/_, _≤_, _<_, min}
 use mathlib.Core.Path.{_≡_}
-use mathlib.Core.Bool.{Bool, true, false, cond}
+use mathlib.Core.Bool.{Bool, true, false, not, _&&_, cond}
 use mathlib.Core.List.{List, [], _∷_}
 use lib.ListN.{length, getD}
+use lib.Dec.{eqb}
 use Rattle.rule.specs.Rules.{Keeps, allowed, deviationRule, coefficientRule}
 use Rattle.rule.specs.Scaled.{noughtOf}
 use Rattle.matrix.specs.declared.Fields.{Fields}
@@ -29,11 +30,16 @@ sum (x ∷ xs) = x + sum xs
 abbrev pub nought : Fields → ℕ
 nought f = cond (f .cf) (noughtOf (f .clen)) 0
 
+-- whether a flag says mapped of values that have no bytes: in Mode 2, as Mode 1 has no such flags
+abbrev pub alone : Bool → Bool → ℕ → Bool
+alone mode1 mapped length = (mapped && eqb length 0) && not mode1
+
 -- the rules of the size, and of what Mode 2 says in control byte 1
 pub record LawfulFirst (f : Fields) : Type 0 where
   pub size-least : 1 ≤ f .n
   pub size-most : f .n ≤ 64
   pub coefficient-length : allowed (f .cf) (f .clen) ≡ true
+  pub coefficient-flag : alone (f .mode1) (f .cf) (f .clen) ≡ false
   pub sparse : f .cs ≡ true → 0 < f .clen
   pub size-one : f .n ≡ 1 → f .clen ≡ 0
 
@@ -41,6 +47,7 @@ pub record LawfulFirst (f : Fields) : Type 0 where
 pub record LawfulFields (f : Fields) : Type 0 where
   pub first : LawfulFirst f
   pub deviation-length : allowed (f .sf) (f .slen) ≡ true
+  pub deviation-flag : alone (f .mode1) (f .sf) (f .slen) ≡ false
   pub some-length : 0 < f .slen + f .clen
 
 -- what Mode 1 asks of the fields: it is let in, coefficients are mapped, deviations as told, and each length has three bits

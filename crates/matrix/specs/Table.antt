@@ -5,12 +5,12 @@ use mathlib.Core.List.{List, [], _∷_, _++_}
 use lib.ListN.{length, take, getD}
 use lib.Dec.{eqb, ltb}
 use Rattle.verdict.specs.declared.Reason.{Reason}
-use Rattle.verdict.specs.declared.Reason.the-variants.{Zero, TooLarge, PaddedNumber, Mode, Reserved, ValueLength, Sparse, SizeOne, Empty, VectorEnd, ValueRange}
+use Rattle.verdict.specs.declared.Reason.the-variants.{Zero, TooLarge, PaddedNumber, Mode, Reserved, ValueLength, FormatAlone, Sparse, SizeOne, Empty, VectorEnd, ValueRange}
 use Rattle.verdict.specs.Rows.{Row, Blamed}
 use Rattle.rule.specs.Rules.{allowed}
 use Rattle.matrix.specs.declared.Fields.{Fields}
 use Rattle.matrix.specs.declared.Told.{Told}
-use Rattle.matrix.specs.Meaning.{pairs, sum}
+use Rattle.matrix.specs.Meaning.{pairs, sum, alone}
 use Rattle.matrix.specs.Header.{first, second, single, inMode1, vectorBytes, bits}
 
 -- the size
@@ -21,12 +21,18 @@ sizeRows b =
     ∷ record { broken = ltb 64 b; reason = TooLarge }
     ∷ []
 
--- each rule of the control fields with its reason: 6 for Clen and for Slen, 7, 8, 9
+-- each rule of the control fields with its reason: 6 for Clen and for Slen, 16 for Cf and for Sf, 7, 8, 9
 abbrev pub coefficientLength : Fields → Row
 coefficientLength f = record { broken = not (allowed (f .cf) (f .clen)); reason = ValueLength }
 
 abbrev pub deviationLength : Fields → Row
 deviationLength f = record { broken = not (allowed (f .sf) (f .slen)); reason = ValueLength }
+
+abbrev pub coefficientFlag : Fields → Row
+coefficientFlag f = record { broken = alone (f .mode1) (f .cf) (f .clen); reason = FormatAlone }
+
+abbrev pub deviationFlag : Fields → Row
+deviationFlag f = record { broken = alone (f .mode1) (f .sf) (f .slen); reason = FormatAlone }
 
 abbrev pub sparseRow : Fields → Row
 sparseRow f = record { broken = f .cs && eqb (f .clen) 0; reason = Sparse }
@@ -41,13 +47,13 @@ emptyRow f = record { broken = eqb (f .slen) 0 && eqb (f .clen) 0; reason = Empt
 abbrev pub singleRows : Fields → List Row
 singleRows f = coefficientLength f ∷ deviationLength f ∷ sparseRow f ∷ sizeOneRow f ∷ emptyRow f ∷ []
 
--- what control byte 1 says of the coefficients: 6, 7, 8
+-- what control byte 1 says of the coefficients: 6, 16, 7, 8
 abbrev pub coefficientRows : Fields → List Row
-coefficientRows f = coefficientLength f ∷ sparseRow f ∷ sizeOneRow f ∷ []
+coefficientRows f = coefficientLength f ∷ coefficientFlag f ∷ sparseRow f ∷ sizeOneRow f ∷ []
 
--- what control byte 2 says of the deviations: 6, 9
+-- what control byte 2 says of the deviations: 6, 16, 9
 abbrev pub deviationRows : Fields → List Row
-deviationRows f = deviationLength f ∷ emptyRow f ∷ []
+deviationRows f = deviationLength f ∷ deviationFlag f ∷ emptyRow f ∷ []
 
 -- control byte 1: 4 where Mode 1 is not let in, 5, then of the coefficients
 abbrev pub control1Rows : Fields → ℕ → List Row

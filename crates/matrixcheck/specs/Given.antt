@@ -70,7 +70,7 @@ valueRows f deviations coefficients marks =
     ∷ record { broken = not (sentFit (coefficientRule (f .cf) (f .clen)) (take (pairs (f .n)) marks) coefficients); reason = ValueRange }
     ∷ []
 
--- the rules of what is given, whatever is lent, where Mode 1's deviations are mapped or not: 1 or 2 for N; Clen 6, 7, 8; Slen 6; 9 for no lengths; 14; 9; 11
+-- the rules of what is given, whatever is lent, where Mode 1's deviations are mapped or not: 1 or 2 for N; Clen 6, 16, 7, 8; Slen 6, 16; 9 for no lengths; 14; 9; 11
 abbrev pub givenRows : Bool → Fields → List ℕ → List ℕ → List ℕ → List Row
 givenRows mapped f deviations coefficients marks =
     fieldRows mapped f ++ (formatRow mapped f ∷ (disagreeRows f deviations coefficients marks ++ valueRows f deviations coefficients marks))

@@ -68,7 +68,7 @@ module _ (bytes : List ℕ) (f : Fields) (here : 2 ≤ length bytes) (one : f .m
   single-headed h l e =
       record {
         same = refl;
-        lawful = single-lawful f h l (judgement-kept (singleRows f) e);
+        lawful = single-lawful f one h l (judgement-kept (singleRows f) e);
         within = omega (arith, header-one f one);
         leads = behind-kept (singleRows f) (enterValues f (vectorBytes f)) bytes 2 e ∙ ap (verdictBehind (enterValues f (vectorBytes f)) bytes) (sym (header-one f one));
       }

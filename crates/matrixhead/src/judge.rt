@@ -1,8 +1,8 @@
-// Whether a byte keeps the rules of its field: document 01's table, in its order.
+// Whether a byte keeps the rules of its field: the table of documents 01 and 02, in its order.
 ghost use mathlib.Core.Path.{_≡_};
 ghost use Prim.Native.Nat.{_≤_, _-_, _*_};
 ghost use Rattle.rule.specs.Rules.{allowed};
-ghost use Rattle.matrix.specs.Meaning.{pairs};
+ghost use Rattle.matrix.specs.Meaning.{pairs, alone};
 ghost use Rattle.matrix.specs.Header.{vectorBytes};
 ghost use mathlib.Core.Bool.{cond};
 ghost use mathlib.Core.List.{_∷_, _++_};
@@ -31,6 +31,13 @@ fn allows(mapped: bool, length: usize) -> bool
     }
 }
 
+// Whether a flag says mapped of values that have no bytes, in Mode 2.
+fn stands_alone(mode1: bool, mapped: bool, length: usize) -> bool
+    ensures { λ r. ⌜ r ≡ alone mode1 mapped length ⌝ }
+{
+    (mapped & (length == 0)) & !mode1
+}
+
 pub(crate) fn judge_size(b: usize) -> Judged
     ensures { λ r. ⌜ r ≡ judgement (sizeRows b) ⌝ }
 {
@@ -52,6 +59,9 @@ fn judge_coefficients(f: Fields) -> Judged
     if !allows(f.cf, f.clen) {
         return Judged::Broken(Reason::ValueLength);
     }
+    if stands_alone(f.mode1, f.cf, f.clen) {
+        return Judged::Broken(Reason::FormatAlone);
+    }
     if f.cs & (f.clen == 0) {
         return Judged::Broken(Reason::Sparse);
     }
@@ -66,6 +76,9 @@ fn judge_deviations(f: Fields) -> Judged
 {
     if !allows(f.sf, f.slen) {
         return Judged::Broken(Reason::ValueLength);
+    }
+    if stands_alone(f.mode1, f.sf, f.slen) {
+        return Judged::Broken(Reason::FormatAlone);
     }
     if (f.slen == 0) & (f.clen == 0) {
         return Judged::Broken(Reason::Empty);

@@ -10,6 +10,7 @@ pub mod Running
 pub mod Paper
 pub mod MatrixTrip
 pub mod Stored
+pub mod Encoding
 pub mod Noughts
 pub mod Symmetry
 pub mod ArrayVerdicts

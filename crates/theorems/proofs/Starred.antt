@@ -24,11 +24,11 @@ verdictBy (matrix told) = verdictOf told
 verdictBy array = arrayVerdictOf
 
 -- whether each of some numbers is a byte
-abbrev bytely : List ℕ → Bool
+abbrev pub bytely : List ℕ → Bool
 bytely [] = true
 bytely (b ∷ bs) = ltb b 256 && bytely bs
 
-bytely-bytes : (bs : List ℕ) → bytely bs ≡ true → Bytes bs
+pub bytely-bytes : (bs : List ℕ) → bytely bs ≡ true → Bytes bs
 bytely-bytes [] e i = omega arith
 bytely-bytes (b ∷ bs) e i = at i (and-eq-true-iff (ltb b 256) (bytely bs) .0 e) (λ h k. bytely-bytes bs h k)
   where

@@ -1,10 +1,10 @@
--- The rows of document 01, starred and not, worked out for each mode and stated format, a row for each reason that a kind of pack has, and one on
--- each side of every constant.
+-- The rows of document 01, starred and not, worked out for each mode and stated format, a row for each reason that a kind of pack has, one on
+-- each side of every constant, and format flags alone with their neighbours.
 use Prim.Native.Nat.{ℕ}
 use mathlib.Core.Bool.{true, false}
 use mathlib.Core.List.{List, [], _∷_, _++_}
 use Rattle.verdict.specs.declared.Reason.{Reason}
-use Rattle.verdict.specs.declared.Reason.the-variants.{Zero, TooLarge, PaddedNumber, Mode, Reserved, ValueLength, Sparse, SizeOne, Empty, VectorEnd, ValueRange, Processing}
+use Rattle.verdict.specs.declared.Reason.the-variants.{Zero, TooLarge, PaddedNumber, Mode, Reserved, ValueLength, FormatAlone, Sparse, SizeOne, Empty, VectorEnd, ValueRange, Processing}
 use Rattle.verdict.specs.declared.Verdict.{Verdict}
 use Rattle.verdict.specs.declared.Verdict.the-variants.{Complete, Unfinished, Refused}
 use Rattle.verdict.specs.Says.{Says}
@@ -92,6 +92,26 @@ doubleRows =
     ∷ row (0x02 ∷ 0x88 ∷ 0x00 ∷ 0x3F ∷ 0xF0 ∷ 0 ∷ 0 ∷ 0 ∷ 0 ∷ 0 ∷ 0 ∷ []) (Complete 11)
     ∷ row (0x02 ∷ 0x88 ∷ 0x00 ∷ 0x3F ∷ 0xF0 ∷ 0 ∷ 0 ∷ 0 ∷ 0 ∷ 0 ∷ 1 ∷ []) (refused ValueRange 10)
     ∷ row (0x03 ∷ 0xB2 ∷ 0x04 ∷ 0xA0 ∷ 0x3F ∷ 0x80 ∷ 0 ∷ 0 ∷ 0x40 ∷ 0 ∷ 0 ∷ 0 ∷ 0x40 ∷ 0x80 ∷ 0 ∷ 0 ∷ 0x60 ∷ 0 ∷ 0x20 ∷ 0 ∷ []) (Complete 20)
+    ∷ row (0x01 ∷ 0x80 ∷ []) (Unfinished 2)
+    ∷ row (0x01 ∷ 0x90 ∷ []) (refused FormatAlone 1)
+    ∷ row (0x01 ∷ 0xB0 ∷ []) (refused FormatAlone 1)
+    ∷ row (0x01 ∷ 0xD0 ∷ []) (refused Reserved 1)
+    ∷ row (0x01 ∷ 0x99 ∷ []) (refused ValueLength 1)
+    ∷ row (0x01 ∷ 0x80 ∷ 0x00 ∷ []) (refused Empty 2)
+    ∷ row (0x01 ∷ 0x80 ∷ 0x10 ∷ []) (refused FormatAlone 2)
+    ∷ row (0x01 ∷ 0x80 ∷ 0x11 ∷ []) (Unfinished 1)
+    ∷ row (0x02 ∷ 0x80 ∷ []) (Unfinished 3)
+    ∷ row (0x02 ∷ 0x90 ∷ []) (refused FormatAlone 1)
+    ∷ row (0x02 ∷ 0xB0 ∷ []) (refused FormatAlone 1)
+    ∷ row (0x02 ∷ 0xD0 ∷ []) (refused Reserved 1)
+    ∷ row (0x02 ∷ 0x91 ∷ []) (Unfinished 2)
+    ∷ row (0x02 ∷ 0x99 ∷ []) (refused ValueLength 1)
+    ∷ row (0x02 ∷ 0x80 ∷ 0x10 ∷ []) (refused FormatAlone 2)
+    ∷ row (0x02 ∷ 0x80 ∷ 0x11 ∷ []) (Unfinished 2)
+    ∷ row (0x02 ∷ 0x80 ∷ 0x30 ∷ []) (refused Reserved 2)
+    ∷ row (0x02 ∷ 0x80 ∷ 0x90 ∷ []) (refused Mode 2)
+    ∷ row (0x02 ∷ 0x91 ∷ 0x00 ∷ []) (Unfinished 1)
+    ∷ row (0x02 ∷ 0x91 ∷ 0x10 ∷ []) (refused FormatAlone 2)
     ∷ []
 
 -- bytes that tell modes and formats apart

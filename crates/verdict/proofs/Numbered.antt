@@ -6,16 +6,16 @@ use native.Mathlib.Omega.{arith}
 use lib.Dec.{lit≤}
 use lib.ListN.{getD}
 use Rattle.verdict.specs.declared.Reason.{Reason}
-use Rattle.verdict.specs.declared.Reason.the-variants.{Zero, TooLarge, PaddedNumber, Mode, Reserved, ValueLength, Sparse, SizeOne, Empty, VectorEnd, ValueRange, Processing, SmallBuffer, Disagree, Index, Character, UnknownKey, LengthForm, LengthDiffers, FrameShort, FrameLong}
+use Rattle.verdict.specs.declared.Reason.the-variants.{Zero, TooLarge, PaddedNumber, Mode, Reserved, ValueLength, Sparse, SizeOne, Empty, VectorEnd, ValueRange, Processing, SmallBuffer, Disagree, Index, FormatAlone, Character, UnknownKey, LengthForm, LengthDiffers, FrameShort, FrameLong}
 use Rattle.verdict.specs.declared.Verdict.{Verdict}
 use Rattle.verdict.specs.declared.Verdict.the-variants.{Complete, Unfinished, Refused}
 use Rattle.verdict.specs.Numbers.{numberOf, paperOf, packedOf, Occurs}
 
--- the reasons by their numbers; 0 and 16 to 19 are no reason's
+-- the reasons by their numbers; 0 and 17 to 19 are no reason's
 reasons : List Reason
 reasons =
     Zero ∷ Zero ∷ TooLarge ∷ PaddedNumber ∷ Mode ∷ Reserved ∷ ValueLength ∷ Sparse ∷ SizeOne ∷ Empty ∷ VectorEnd ∷ ValueRange ∷ Processing ∷ SmallBuffer
-    ∷ Disagree ∷ Index ∷ Zero ∷ Zero ∷ Zero ∷ Zero ∷ Character ∷ UnknownKey ∷ LengthForm ∷ LengthDiffers ∷ FrameShort ∷ FrameLong ∷ []
+    ∷ Disagree ∷ Index ∷ FormatAlone ∷ Zero ∷ Zero ∷ Zero ∷ Character ∷ UnknownKey ∷ LengthForm ∷ LengthDiffers ∷ FrameShort ∷ FrameLong ∷ []
 
 reason-known : (r : Reason) → (numberOf r ≤ 25) × (getD reasons (numberOf r) Zero ≡ r)
 unfolding reasons
@@ -34,6 +34,7 @@ reason-known Processing = (lit≤ tt, refl)
 reason-known SmallBuffer = (lit≤ tt, refl)
 reason-known Disagree = (lit≤ tt, refl)
 reason-known Index = (lit≤ tt, refl)
+reason-known FormatAlone = (lit≤ tt, refl)
 reason-known Character = (lit≤ tt, refl)
 reason-known UnknownKey = (lit≤ tt, refl)
 reason-known LengthForm = (lit≤ tt, refl)

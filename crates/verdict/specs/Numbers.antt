@@ -1,11 +1,11 @@
 -- The paper's number for each case: of a reason, and of a verdict as C gets it.
 use Prim.Native.Nat.{ℕ, _+_, _*_, _^_, _<_, min}
 use Rattle.verdict.specs.declared.Reason.{Reason}
-use Rattle.verdict.specs.declared.Reason.the-variants.{Zero, TooLarge, PaddedNumber, Mode, Reserved, ValueLength, Sparse, SizeOne, Empty, VectorEnd, ValueRange, Processing, SmallBuffer, Disagree, Index, Character, UnknownKey, LengthForm, LengthDiffers, FrameShort, FrameLong}
+use Rattle.verdict.specs.declared.Reason.the-variants.{Zero, TooLarge, PaddedNumber, Mode, Reserved, ValueLength, Sparse, SizeOne, Empty, VectorEnd, ValueRange, Processing, SmallBuffer, Disagree, Index, FormatAlone, Character, UnknownKey, LengthForm, LengthDiffers, FrameShort, FrameLong}
 use Rattle.verdict.specs.declared.Verdict.{Verdict}
 use Rattle.verdict.specs.declared.Verdict.the-variants.{Complete, Unfinished, Refused}
 
--- document 01's table, 1 to 15, and its numbers of frames, 20 to 25
+-- document 01's table, 1 to 15, document 02's 16, and the numbers of frames, 20 to 25
 abbrev pub numberOf : Reason → ℕ
 numberOf Zero = 1
 numberOf TooLarge = 2
@@ -22,6 +22,7 @@ numberOf Processing = 12
 numberOf SmallBuffer = 13
 numberOf Disagree = 14
 numberOf Index = 15
+numberOf FormatAlone = 16
 numberOf Character = 20
 numberOf UnknownKey = 21
 numberOf LengthForm = 22

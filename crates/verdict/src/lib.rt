@@ -4,7 +4,7 @@ ghost use Prim.Native.Nat.{_-_, min};
 ghost use Rattle.verdict.specs.Numbers.{numberOf, packedOf};
 ghost use Rattle.verdict.specs.Writing.{refusing};
 
-// Why bytes or arguments are refused, each under its name in document 01.
+// Why bytes or arguments are refused, each under its name in documents 01 and 02.
 pub enum Reason {
     Zero,
     TooLarge,
@@ -21,6 +21,7 @@ pub enum Reason {
     SmallBuffer,
     Disagree,
     Index,
+    FormatAlone,
     Character,
     UnknownKey,
     LengthForm,
@@ -48,7 +49,7 @@ pub enum Judged {
     Broken(Reason),
 }
 
-// The number of a reason in document 01's table.
+// The number of a reason in the tables of documents 01 and 02.
 pub fn number(reason: Reason) -> u64
     ensures { λ r. ⌜ r ≡ numberOf reason ⌝ }
 {
@@ -68,6 +69,7 @@ pub fn number(reason: Reason) -> u64
         Reason::SmallBuffer => 13,
         Reason::Disagree => 14,
         Reason::Index => 15,
+        Reason::FormatAlone => 16,
         Reason::Character => 20,
         Reason::UnknownKey => 21,
         Reason::LengthForm => 22,
