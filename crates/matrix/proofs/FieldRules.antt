@@ -48,7 +48,7 @@ module _ (f : Fields) where
       (rw (g .deviation-length), (g .deviation-flag, (either (eqb (f .slen) 0) (λ e. rw (e, ne-eqb (f .clen) 0 (λ z. omega (arith, g .some-length, eqb-true (f .slen) 0 e)))) (λ e. rw e), tt)))
 
   -- Mode 1 has no flags that could stand alone
-  never-alone : f .mode1 ≡ true → (mapped : Bool) (length : ℕ) → alone (f .mode1) mapped length ≡ false
+  pub never-alone : f .mode1 ≡ true → (mapped : Bool) (length : ℕ) → alone (f .mode1) mapped length ≡ false
   never-alone e mapped length = ap (λ (one : Bool). alone one mapped length) e ∙ and-false (mapped && eqb length 0)
 
   -- its control byte has the other rules of both

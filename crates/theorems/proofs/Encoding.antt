@@ -1,23 +1,20 @@
 -- One matrix has one encoding. Assumes nothing.
-use Prim.Native.Nat.{ℕ, zero, suc, _<_, min}
+use Prim.Native.Nat.{ℕ, zero, suc, _<_}
 use mathlib.Core.Path.{_≡_, refl, sym, ap, ap₂, _∙_, subst}
 use mathlib.Core.Bool.{Bool, true, false, false≢true}
 use mathlib.Core.Logic.{_↔_}
 use mathlib.Core.List.{List, [], _∷_}
-use lib.Dec.{lit<}
 use lib.ListN.{getD}
 use native.Mathlib.Omega.{arith}
-use Rattle.verdict.specs.declared.Verdict.the-variants.{Complete}
 use Rattle.verdict.specs.Machine.{run}
 use Rattle.verdict.specs.Rows.{judged}
-use Rattle.verdict.specs.Says.{Bytes}
 use Rattle.word.specs.Digits.{digits}
 use Rattle.matrix.specs.declared.Told.{Told}
 use Rattle.matrix.specs.Meaning.{Matrix, pairs, sum, alone, Lawful, Fits, stating}
 use Rattle.matrix.specs.Header.{headerBytes, bits}
 use Rattle.matrix.specs.Spelling.{read, bytesOf, meaningOf}
 use Rattle.matrix.specs.Pack.{MatrixPack}
-use Rattle.matrix.specs.Machine.{enter, runBytes, verdictOf}
+use Rattle.matrix.specs.Machine.{enter, runBytes}
 use Rattle.matrix.proofs.Complete.{complete-meaning}
 use Rattle.matrix.proofs.Decoding.{Meant, meaning-one}
 use Rattle.theorems.specs.Encoding.{SameValues, SameMatrix}
@@ -31,8 +28,22 @@ flag-one false true b zero x y told stated = absurd (false≢true (sym x))
 flag-one false false true zero x y told stated = absurd (false≢true (sym y))
 flag-one false false false zero x y told stated = refl
 
+-- a meaning, sparse or not
+abbrev withCs : Bool → Matrix → Matrix
+withCs cs m =
+    record {
+      fields = record { n = m .fields .n; cs = cs; cf = m .fields .cf; clen = m .fields .clen; sf = m .fields .sf; slen = m .fields .slen; mode1 = m .fields .mode1 };
+      deviations = m .deviations;
+      marks = m .marks;
+      coefficients = m .coefficients;
+    }
+
+-- meanings that differ in Cs alone have the same values
+same-values : (cs : Bool) (m : Matrix) → SameValues m (withCs cs m)
+same-values cs m = record { mode = refl; size = refl; coefficient-length = refl; deviation-length = refl; coefficient-format = λ h. refl; deviation-format = λ h. refl; deviations = refl; marks = refl; coefficients = refl }
+
 same-itself : (m : Matrix) → SameMatrix m m
-same-itself m = record { values = record { mode = refl; size = refl; coefficient-length = refl; deviation-length = refl; coefficient-format = λ h. refl; deviation-format = λ h. refl; deviations = refl; marks = refl; coefficients = refl }; sparse = refl }
+same-itself m = record { values = same-values (m .fields .cs) m; sparse = refl }
 
 module _ (told : Told) (m k : Matrix) (g : Lawful m) (h : Lawful k) (a : Fits told (m .fields)) (b : Fits told (k .fields)) where
   coefficient-formats : SameValues m k → m .fields .cf ≡ k .fields .cf
@@ -94,10 +105,7 @@ sparse-apart =
     let told = stating false in
     let x : Meant told sparse-pack (meaningOf told sparse-pack) = complete-meaning told sparse-pack (bytely-bytes sparse-pack refl) 5 refl in
     let y : Meant told full-pack (meaningOf told full-pack) = complete-meaning told full-pack (bytely-bytes full-pack refl) 4 refl in
-    (meaningOf told sparse-pack, meaningOf told full-pack, x .0, y .0, same, λ e. differ (sym (x .2) ∙ e ∙ y .2))
+    (meaningOf told sparse-pack, meaningOf told full-pack, x .0, y .0, same-values false (meaningOf told sparse-pack), λ e. differ (sym (x .2) ∙ e ∙ y .2))
   where
-    same : SameValues (meaningOf (stating false) sparse-pack) (meaningOf (stating false) full-pack)
-    same = record { mode = refl; size = refl; coefficient-length = refl; deviation-length = refl; coefficient-format = λ h. refl; deviation-format = λ h. refl; deviations = refl; marks = refl; coefficients = refl }
-
     differ : sparse-pack ≡ full-pack → ⊥
     differ e = let z : _≡_ {A = ℕ} 0xB1 0x91 = ap (λ (l : List ℕ). getD l 1 0) e in omega arith

@@ -11,6 +11,7 @@ pub mod Paper
 pub mod MatrixTrip
 pub mod Stored
 pub mod Encoding
+pub mod Alone
 pub mod Noughts
 pub mod Symmetry
 pub mod ArrayVerdicts

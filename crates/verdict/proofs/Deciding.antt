@@ -10,7 +10,7 @@ use Rattle.verdict.specs.declared.Reason.{Reason}
 use Rattle.verdict.specs.declared.Reason.the-variants.{SmallBuffer}
 use Rattle.verdict.specs.declared.Judged.the-variants.{Kept as JudgedKept, Broken}
 use Rattle.verdict.specs.declared.Verdict.{Verdict}
-use Rattle.verdict.specs.declared.Verdict.the-variants.{Complete}
+use Rattle.verdict.specs.declared.Verdict.the-variants.{Complete, Unfinished, Refused}
 use Rattle.verdict.specs.Rows.{Row, Blamed}
 use Rattle.verdict.specs.Judgement.{judgement}
 use Rattle.verdict.specs.Writing.{put, refusing, decided, roomRows, leftBy, WrittenBy}
@@ -82,6 +82,22 @@ judgement-blamed (row ∷ rows) reason e = go (row .broken) e (judgement-blamed 
   where
     go : (t : Bool) → cond t (Broken (row .reason)) (judgement rows) ≡ Broken reason → (judgement rows ≡ Broken reason → Blamed rows reason) → cond t (row .reason ≡ reason) (Blamed rows reason)
     go true h f = cc
+    go false h f = f h
+
+-- the reason of a refusal, or another
+abbrev reasonOr : Reason → Verdict → Reason
+reasonOr other (Complete n) = other
+reasonOr other (Unfinished n) = other
+reasonOr other (Refused r) = r .reason
+
+-- what a writer refuses is blamed on a rule
+pub decided-blamed : (rows : List Row) (count : ℕ) (reason : Reason) → decided rows (Complete count) ≡ refusing reason → Blamed rows reason
+unfolding decided Blamed
+decided-blamed [] count reason e = let z : _≡_ {A = ℕ} 0 1 = cc in absurd (omega arith)
+decided-blamed (row ∷ rows) count reason e = go (row .broken) e (decided-blamed rows count reason)
+  where
+    go : (t : Bool) → cond t (refusing (row .reason)) (decided rows (Complete count)) ≡ refusing reason → (decided rows (Complete count) ≡ refusing reason → Blamed rows reason) → cond t (row .reason ≡ reason) (Blamed rows reason)
+    go true h f = ap (reasonOr reason) h
     go false h f = f h
 
 -- where a writer succeeds, all its rules are kept

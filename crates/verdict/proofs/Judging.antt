@@ -1,11 +1,14 @@
 -- A byte that breaks no rule of its field makes the field's move, and any other is refused for the first rule broken. Assumes nothing.
 use Prim.Native.Nat.{ℕ}
-use mathlib.Core.Path.{_≡_, refl, sym, _∙_, subst}
-use mathlib.Core.Bool.{Bool, true, false, cond}
+use mathlib.Core.Path.{_≡_, refl, sym, ap, _∙_, subst}
+use mathlib.Core.Bool.{Bool, true, false, _&&_, _||_, cond, and-false}
 use mathlib.Core.Logic.{_⊎_, inl, inr, ⊎-elim}
 use mathlib.Core.List.{List, [], _∷_}
+use borrow.Author.Tests.{eq-eqb}
+use lib.Dec.{eqb}
 use Rattle.verdict.specs.declared.Reason.{Reason}
 use Rattle.verdict.specs.Machine.{Move, bad, moved, Accepts, Blames}
+use Rattle.verdict.specs.Numbers.{numberOf}
 use Rattle.verdict.specs.Rows.{Row, Blamed, judged}
 
 -- no rule is broken
@@ -22,6 +25,21 @@ one-blamed (row ∷ rows) r q x y = go (row .broken) x y (λ a b. one-blamed row
     go : (t : Bool) → cond t (row .reason ≡ r) (Blamed rows r) → cond t (row .reason ≡ q) (Blamed rows q) → (Blamed rows r → Blamed rows q → r ≡ q) → r ≡ q
     go true x y ih = sym x ∙ y
     go false x y ih = ih x y
+
+-- whether a rule with this number is broken
+abbrev pub broken : ℕ → List Row → Bool
+broken number [] = false
+broken number (row ∷ rows) = (eqb number (numberOf (row .reason)) && row .broken) || broken number rows
+
+-- a reason that is blamed is that of a broken rule
+pub blamed-broken : (rows : List Row) (r : Reason) → Blamed rows r → broken (numberOf r) rows ≡ true
+unfolding Blamed
+blamed-broken [] r x = absurd x
+blamed-broken (row ∷ rows) r x = go (row .broken) x (blamed-broken rows r)
+  where
+    go : (t : Bool) → cond t (row .reason ≡ r) (Blamed rows r) → (Blamed rows r → broken (numberOf r) rows ≡ true) → (eqb (numberOf r) (numberOf (row .reason)) && t) || broken (numberOf r) rows ≡ true
+    go true e ih = rw (eq-eqb (numberOf r) (numberOf (row .reason)) (ap numberOf (sym e))) refl
+    go false y ih = rw (and-false (eqb (numberOf r) (numberOf (row .reason)))) (ih y)
 
 module _ {S : Type 0} where
   pub judged-kept : (rows : List Row) (next : Move S) → Kept rows → judged rows next ≡ next
