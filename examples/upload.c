@@ -1,7 +1,6 @@
 /* Says what is missing of a pack that is still being uploaded: upload S FILE for a matrix pack, upload M FILE for an array pack.
  * Ask again whenever the file has grown; what is said of a complete or a refused pack never changes. The deviations of Mode 1 are taken as IEEE. */
 #include <stdio.h>
-#include <stdlib.h>
 #include "galimpukas.h"
 
 static void say(uint64_t answer, size_t count) {

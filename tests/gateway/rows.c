@@ -1,7 +1,7 @@
 /* Runs rows of bytes through the calls that C has, and says what each gives, as the program rows does; and rows of the calls' own numbers:
  * "F HEX ROOM" the fields of a matrix pack, "V HEX FORMAT ROOM" the four calls that read one, under this number as the format and with lists of so
  * many entries, "G HEX ZEROS ROOM" the fields of an array pack of these bytes and so many of 0, "H FORMAT N .." a matrix of one value for each written
- * from these numbers, "N" every call with no memory at all. A star in place of the first space states the format mapped. The bytes that a call reads
+ * from these numbers, "N" every call with no memory but a frame's kind. A star in place of the first space states the format mapped. The bytes that a call reads
  * stand before memory that cannot be read; the lists that it fills are lent from the middle of longer ones, and "kept" says that every other entry is
  * as it was. */
 #define _GNU_SOURCE
@@ -14,6 +14,7 @@
 enum { LIST = 4112, BUFFER = 33024, GUARDED = 1 << 18 };
 
 static uint64_t words[LIST], more_words[LIST];
+static int64_t scaled[LIST];
 static uint8_t marks[LIST], out[BUFFER];
 static size_t numbers[32];
 static uint8_t *guard;
@@ -23,6 +24,7 @@ static uint8_t *guard;
 static void lend(void) {
     memset(words, 0xA5, sizeof words);
     memset(more_words, 0xA5, sizeof more_words);
+    memset(scaled, 0xA5, sizeof scaled);
     memset(marks, 0xA5, sizeof marks);
     memset(out, 0xA5, sizeof out);
     memset(numbers, 0xA5, sizeof numbers);
@@ -36,6 +38,9 @@ static int kept(const void *list, size_t size, size_t entry, size_t filled) {
     return 1;
 }
 #define KEPT(list, filled) kept(list, sizeof list, sizeof *list, filled)
+
+/* How many entries an answer says are filled. */
+static size_t filled(uint64_t answer, size_t count) { return GALIMPUKAS_IS_COMPLETE(answer) ? count : 0; }
 
 /* Bytes that end where no memory can be read. */
 static const uint8_t *guarded(const uint8_t *bytes, size_t count) { return memcpy(guard - count, bytes, count); }
@@ -52,6 +57,11 @@ static void say(uint64_t answer) {
 static void say_words(const char *name, const uint64_t *list, size_t count) {
     printf(" %s", name);
     for (size_t i = 0; i < count; i++) printf(" %llu", (unsigned long long)list[i]);
+}
+
+static void say_scaled(const int64_t *list, size_t count) {
+    printf(" scaled");
+    for (size_t i = 0; i < count; i++) printf(" %lld", (long long)list[i]);
 }
 
 static void say_bytes(const char *name, const uint8_t *list, size_t count) {
@@ -126,6 +136,22 @@ static void expand_row(const struct row *r) {
     say_kept(KEPT(words, n * n) && KEPT(marks, n * n));
 }
 
+/* The coefficients of a whole pack, of whose mapped words the unit is what the word 0 is below nought. */
+static void scaled_row(const struct row *r) {
+    const uint8_t *pack = guarded(r->bytes, r->count);
+    size_t fields[GALIMPUKAS_MATRIX_FIELDS] = {0};
+    uint64_t least = 0, answer = matrix_unpack(pack, r->count, r->format, words, LIST, more_words, LIST, marks, LIST);
+    int64_t unit = 0;
+    matrix_fields(pack, r->count, r->format, fields, GALIMPUKAS_MATRIX_FIELDS);
+    size_t m = GALIMPUKAS_PAIRS(fields[GALIMPUKAS_N]), length = fields[GALIMPUKAS_CLEN];
+    matrix_scale(more_words, m, length, scaled, m);
+    matrix_scale(&least, 1, length, &unit, 1);
+    printf("%s ", r->text);
+    say(answer);
+    say_scaled(scaled, m);
+    printf(" of %lld\n", (long long)-unit);
+}
+
 /* Whether an answer and what it left are right: the pack where there is room for it, else 13 and nothing. */
 static int right(uint64_t answer, const struct row *r, size_t room) {
     if (room < r->count) return GALIMPUKAS_IS_REFUSED(answer) && GALIMPUKAS_REASON(answer) == GALIMPUKAS_SMALL_BUFFER && KEPT(out, 0);
@@ -160,6 +186,25 @@ static uint64_t eight_at(const uint8_t *b) {
     uint64_t word = 0;
     for (int i = 0; i < 8; i++) word = word << 8 | b[i];
     return word;
+}
+
+/* Words of eight bytes each, as words of so many bytes into a list of so many entries. */
+static void scale_row(const struct row *r) {
+    size_t count = r->count / 8;
+    for (size_t i = 0; i < count; i++) words[i] = eight_at(r->bytes + 8 * i);
+    const uint64_t *given = (const uint64_t *)(const void *)guarded((const uint8_t *)words, 8 * count);
+    uint64_t answer = matrix_scale(given, count, r->given[0], scaled + 1, r->given[1]);
+    printf("%s ", r->text);
+    say(answer);
+    if (GALIMPUKAS_IS_COMPLETE(answer)) say_scaled(scaled + 1, count);
+    say_kept(KEPT(scaled, filled(answer, count)));
+}
+
+static void frame_row(const struct row *r) {
+    uint64_t answer = frame_verdict(with_zeros(r), r->count + r->given[0], out + 1);
+    printf("%s %c ", r->text, KEPT(out, 1) ? out[1] : '?');
+    say(answer);
+    printf("\n");
 }
 
 static void say_written(const struct row *r, uint64_t answer) {
@@ -200,9 +245,6 @@ static void fields_row(const struct row *r) {
     say_kept(KEPT(numbers, filled));
 }
 
-/* How many entries an answer says are filled. */
-static size_t filled(uint64_t answer, size_t count) { return GALIMPUKAS_IS_COMPLETE(answer) ? count : 0; }
-
 /* Any number for a format, in each call that reads a matrix pack. */
 static void formats_row(const struct row *r) {
     const uint8_t *pack = guarded(r->bytes, r->count);
@@ -231,22 +273,26 @@ static void numbers_row(const struct row *r) {
 
 static void nothing_row(const struct row *r) {
     size_t f = r->format;
+    uint8_t kind = 0;
     uint64_t answers[] = {matrix_verdict(0, 0, f), matrix_fields(0, 0, f, 0, 0), matrix_unpack(0, 0, f, 0, 0, 0, 0, 0, 0), matrix_expand(0, 0, f, 0, 0, 0, 0),
                           matrix_write(0, 0, f, 0, 0, 0, 0, 0, 0, 0, 0), array_verdict(0, 0), array_fields(0, 0, 0, 0), array_address(0, 0, 0, 0),
-                          array_write(0, 0, 0, 0, 0, 0, 0)};
+                          array_write(0, 0, 0, 0, 0, 0, 0), matrix_scale(0, 0, 1, 0, 0), frame_verdict(0, 0, &kind)};
     printf("%s", r->text);
     for (size_t i = 0; i < sizeof answers / sizeof *answers; i++) printf(", "), say(answers[i]);
-    printf("\n");
+    printf(" %c\n", kind);
 }
 
 static void do_row(const struct row *r) {
     lend();
     switch (r->kind) {
     case 'A': address_row(r); break;
+    case 'C': scaled_row(r); break;
     case 'E': expand_row(r); break;
     case 'F': case 'G': fields_row(r); break;
     case 'H': numbers_row(r); break;
+    case 'K': scale_row(r); break;
     case 'N': nothing_row(r); break;
+    case 'P': frame_row(r); break;
     case 'Q': case 'R': again_row(r); break;
     case 'U': unpack_row(r); break;
     case 'V': formats_row(r); break;

@@ -1,4 +1,4 @@
-// Frames on lines of hexadecimal, and the report on a file of such lines.
+// Frames, and the report on a file of lines that spell frames in hexadecimal.
 
 use crate::verdict::Verdict;
 use crate::{array, matrix};
@@ -54,37 +54,34 @@ pub fn hex_of_bytes(bytes: &[u8]) -> String {
     text
 }
 
-/// Kind, word and the two numbers for one line, without its LF.
-pub fn examine(line: &[u8]) -> (char, &'static str, usize, usize) {
-    if line.len() > 2 * GREATEST_FRAME {
-        return ('-', "BAD", 25, 0);
+/// The kind of a frame, and the verdict on it: complete with the length of its value.
+pub fn verdict(frame: &[u8]) -> (char, Verdict) {
+    let bad = |reason| Verdict::Refused { reason, place: 0 };
+    if frame.len() > GREATEST_FRAME {
+        return ('-', bad(25));
     }
-    let frame = match bytes_of_hex(line) {
-        None => return ('-', "BAD", 20, 0),
-        Some(frame) => frame,
-    };
     if frame.len() < 16 {
-        return ('-', "BAD", 24, 0);
+        return ('-', bad(24));
     }
     let kind = if frame[..16] == MATRIX_KEY {
         'S'
     } else if frame[..16] == ARRAY_KEY {
         'M'
     } else {
-        return ('-', "BAD", 21, 0);
+        return ('-', bad(21));
     };
 
     // The length: how many bytes it takes, whether they are there, and whether the form is due.
     let behind_key = &frame[16..];
     let form = match behind_key.first() {
-        None => return (kind, "BAD", 24, 0),
+        None => return (kind, bad(24)),
         Some(0x00..=0x7F) => 1,
         Some(0x81) => 2,
         Some(0x82) => 3,
-        Some(_) => return (kind, "BAD", 22, 0),
+        Some(_) => return (kind, bad(22)),
     };
     if behind_key.len() < form {
-        return (kind, "BAD", 24, 0);
+        return (kind, bad(24));
     }
     let length = match form {
         1 => behind_key[0] as usize,
@@ -92,11 +89,11 @@ pub fn examine(line: &[u8]) -> (char, &'static str, usize, usize) {
         _ => 256 * behind_key[1] as usize + behind_key[2] as usize,
     };
     if ber_length(length) != behind_key[..form] {
-        return (kind, "BAD", 22, 0);
+        return (kind, bad(22));
     }
     let value = &behind_key[form..];
     if value.len() != length {
-        return (kind, "BAD", 23, 0);
+        return (kind, bad(23));
     }
 
     // Frames take deviations as IEEE where the pack does not say.
@@ -106,10 +103,24 @@ pub fn examine(line: &[u8]) -> (char, &'static str, usize, usize) {
         array::verdict(value)
     };
     match verdict {
-        Verdict::Complete(pack) if pack < length => (kind, "BAD", 23, 0),
-        Verdict::Complete(_) => (kind, "OK", length, 0),
-        Verdict::Unfinished(missing) => (kind, "CUT", missing, 0),
-        Verdict::Refused { reason, place } => (kind, "BAD", reason as usize, place),
+        Verdict::Complete(pack) if pack < length => (kind, bad(23)),
+        _ => (kind, verdict),
+    }
+}
+
+/// Kind, word and the two numbers for one line, without its LF.
+fn examine(line: &[u8]) -> (char, &'static str, usize, usize) {
+    if line.len() > 2 * GREATEST_FRAME {
+        return ('-', "BAD", 25, 0);
+    }
+    let frame = match bytes_of_hex(line) {
+        None => return ('-', "BAD", 20, 0),
+        Some(frame) => frame,
+    };
+    match verdict(&frame) {
+        (kind, Verdict::Complete(length)) => (kind, "OK", length, 0),
+        (kind, Verdict::Unfinished(missing)) => (kind, "CUT", missing, 0),
+        (kind, Verdict::Refused { reason, place }) => (kind, "BAD", reason as usize, place),
     }
 }
 

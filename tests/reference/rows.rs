@@ -4,7 +4,7 @@ use crate::array::{octets, LIMIT};
 use crate::corpus::greatest_word;
 use crate::frame::{bytes_of_hex, hex_of_bytes};
 use crate::matrix::{allowed_lengths, coefficient_count, vector_length, Control, Role};
-use crate::{address, alone, array, matrix, mode1, values, writes};
+use crate::{address, alone, array, framed, matrix, mode1, scaling, values, writes};
 use std::collections::HashSet;
 use std::io::{self, BufRead, Write};
 
@@ -34,6 +34,8 @@ pub fn run(input: &mut dyn BufRead, output: &mut dyn Write) -> io::Result<()> {
             'A' => Some(addressed(&line).ok_or_else(wrong)?),
             'U' | 'E' | 'C' => Some(values::said(&line).ok_or_else(wrong)?),
             'W' | 'X' => Some(writes::said(&line).ok_or_else(wrong)?),
+            'K' => Some(scaling::said(&line).ok_or_else(wrong)?),
+            'P' => Some(framed::said(&line).ok_or_else(wrong)?),
             _ => None,
         };
         if let Some(said) = said {
@@ -837,7 +839,13 @@ pub fn make(output: &mut dyn Write) -> io::Result<()> {
     mode1::make(&mut rows);
     alone::make(&mut rows);
     rows.print(output)?;
-    let others = [address::make(), values::make(), writes::make()];
+    let others = [
+        address::make(),
+        values::make(),
+        writes::make(),
+        scaling::make(),
+        framed::make(),
+    ];
     for row in others.iter().flatten() {
         writeln!(output, "{}", row)?;
     }

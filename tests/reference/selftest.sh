@@ -354,6 +354,51 @@ sed 's/ \(complete\|refused\) .*//' "$work/expected" > "$work/rows"
 "$reference" rows < "$work/rows" > "$work/got"
 diff "$work/expected" "$work/got" || fail "what is written differs from what was worked out by hand"
 
+# Scaling, worked out by hand: the greatest word, 0 and one below nought; the example of the document; the
+# greatest word of eight bytes; each reason, and the order of two.
+cat > "$work/expected" <<'END'
+K 000000000000008000000000000000000000000000000023 1 3 complete 3 scaled 64 -64 -29 kept
+K 000000000000600000000000000040000000000000002000 2 4 complete 3 scaled 8192 0 -8192 kept
+K 8000000000000000 8 1 complete 1 scaled 4611686018427387904 kept
+K  5 0 complete 0 scaled kept
+K 0000000000000040 0 1 refused 6 at 0 kept
+K 0000000000000040 9 1 refused 6 at 0 kept
+K 00000000000000400000000000000081 1 2 refused 11 at 0 kept
+K 8000000000000001 8 1 refused 11 at 0 kept
+K 00000000000000400000000000000040 1 1 refused 13 at 0 kept
+K FFFFFFFFFFFFFFFF 9 1 refused 6 at 0 kept
+K 0000000000000040 0 0 refused 6 at 0 kept
+K 0000000000000081 1 0 refused 11 at 0 kept
+END
+sed 's/ \(complete\|refused\) .*//' "$work/expected" > "$work/rows"
+"$reference" rows < "$work/rows" > "$work/got"
+diff "$work/expected" "$work/got" || fail "what is scaled differs from what was worked out by hand"
+
+# Frames, worked out by hand: those of the document's example; the key; the forms of the length, and bytes
+# that are not as many; a pack that ends before the value; Mode 1; the longest frame and one byte more.
+cat > "$work/expected" <<'END'
+P 060E2B34020501010E010303210000000401801105 0 S complete 4
+P 060E2B34020501010E0103030600000003010181 0 M unfinished 130
+P 060E2B34020501010E010303210000000402910081 0 S refused 11 at 3
+P 060E2B 0 - refused 24 at 0
+P 060E2B34020501010E010303220000 0 - refused 24 at 0
+P 060E2B34020501010E01030322000000 0 - refused 21 at 0
+P 060E2B34020501010E01030321000000 0 S refused 24 at 0
+P 060E2B34020501010E01030321000000 1 S unfinished 3
+P 060E2B34020501010E0103030600000081 0 M refused 24 at 0
+P 060E2B34020501010E01030306000000817F 127 M refused 22 at 0
+P 060E2B34020501010E01030306000000818001017C01 124 M complete 128
+P 060E2B34020501010E01030306000000818001017C01 125 M refused 23 at 0
+P 060E2B34020501010E010303060000000501010001 1 M refused 23 at 0
+P 060E2B34020501010E010303210000000401207BFF 0 S complete 4
+P 060E2B34020501010E010303210000000401207C00 0 S refused 11 at 2
+P  32832 - refused 21 at 0
+P  32833 - refused 25 at 0
+END
+sed 's/ [SM-] \(complete\|unfinished\|refused\) .*//' "$work/expected" > "$work/rows"
+"$reference" rows < "$work/rows" > "$work/got"
+diff "$work/expected" "$work/got" || fail "what is said of a frame differs from what was worked out by hand"
+
 # Lines worked out by hand: after the key, the length and its forms; the characters of a line.
 key=060E2B34020501010E0103032100000
 zeros() { head -c "$1" /dev/zero | tr '\0' 0; }

@@ -1,7 +1,7 @@
 -- Seven numbers as fields: when the rules of the numbers are kept, and that fields that were listed are given back. Assumes nothing.
 use Prim.Native.Nat.{ℕ, _≤_}
 use mathlib.Core.Path.{_≡_, refl, sym, _∙_}
-use mathlib.Core.Bool.{Bool, true, false, not, _&&_, cond, false≢true}
+use mathlib.Core.Bool.{Bool, true, false, not, _&&_, cond}
 use mathlib.Core.List.{List, [], _∷_, _++_}
 use native.Mathlib.Omega.{arith}
 use borrow.Author.Tests.{le-leb, leb-true, not-false}
@@ -9,15 +9,12 @@ use lib.Dec.{eqb, leb, ltb}
 use lib.ListN.{length}
 use Rattle.verdict.specs.declared.Reason.the-variants.{Disagree}
 use Rattle.verdict.specs.Rows.{Blamed}
+use Rattle.verdict.proofs.Cases.{both-true}
 use Rattle.verdict.proofs.Judging.{Kept}
 use Rattle.matrix.specs.declared.Fields.{Fields}
 use Rattle.matrix.specs.Header.{bit}
 use Rattle.matrix.specs.Listed.{fieldNumbers}
 use Rattle.cmatrix.specs.Writing.{fieldsGiven, fieldsFit, numberRows}
-
-first-of : (a b : Bool) → a && b ≡ true → a ≡ true
-first-of true b e = refl
-first-of false b e = absurd (false≢true e)
 
 module _ (format : ℕ) (numbers : List ℕ) where
   pub other-format : ltb 1 format ≡ true → Blamed (numberRows format numbers) Disagree
@@ -33,7 +30,7 @@ module _ (format : ℕ) (numbers : List ℕ) where
     numbers-kept e = (own, (rw (← is) e, tt))
 
 pub seven-given : (numbers : List ℕ) (fit : Bool) → fit ≡ fieldsFit numbers → not fit ≡ false → 7 ≤ length numbers
-seven-given numbers fit is e = leb-true 7 (length numbers) (first-of (leb 7 (length numbers)) _ (sym is ∙ not-false fit e))
+seven-given numbers fit is e = leb-true 7 (length numbers) (both-true (leb 7 (length numbers)) _ (sym is ∙ not-false fit e) .0)
 
 -- the fields as numbers, where the flags are as they should be
 pub numbers-seven : (f : Fields) (cs cf sf mode : ℕ) → cs ≡ bit (f .cs) → cf ≡ bit (f .cf) → sf ≡ bit (f .sf) → mode ≡ cond (f .mode1) 1 2 → (f .n ∷ cs ∷ cf ∷ f .clen ∷ sf ∷ f .slen ∷ mode ∷ []) ≡ fieldNumbers f

@@ -8,7 +8,7 @@ use borrow.Author.Tests.{eqb-false, ne-eqb, leb-true, le-leb}
 use lib.Dec.{eqb, leb}
 use lib.ListN.{length, drop, getD}
 use lib.Seq.{getD-drop}
-use Rattle.verdict.proofs.Cases.{either}
+use Rattle.verdict.proofs.Cases.{either, both-true}
 use Rattle.rule.specs.declared.rules.Rule.{Rule}
 use Rattle.rule.specs.Rules.{Keeps, admitted, cleared}
 use Rattle.matrix.specs.declared.Fields.{Fields}
@@ -30,10 +30,6 @@ sent-at none (mark ∷ marks) words zero h = refl
 sent-at none (mark ∷ marks) words (suc i) h = sent-at none marks (drop 1 words) i (omega arith) ∙ ap (λ (w : ℕ). cond (eqb (getD marks i 0) 0) none w) (next-entry words i)
 
 -- ---- tests
-
-both-true : (a b : Bool) → a && b ≡ true → (a ≡ true) × (b ≡ true)
-both-true true b e = (refl, e)
-both-true false b e = absurd (false≢true e)
 
 true-both : (a b : Bool) → a ≡ true → b ≡ true → a && b ≡ true
 true-both true b p q = q

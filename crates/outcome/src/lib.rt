@@ -1,5 +1,6 @@
 // What is said of a frame: its kind, and what came of it.
 ghost use mathlib.Core.Path.{_≡_};
+ghost use Rattle.outcome.specs.Letters.{letterOf};
 ghost use Rattle.outcome.specs.Refusing.{refusing};
 use verdict::Reason;
 use verdict::Refusal;
@@ -33,5 +34,16 @@ pub fn refuse(kind: Kind, reason: Reason) -> FrameAnswer
     FrameAnswer {
         kind,
         outcome: Outcome::Bad(refusal),
+    }
+}
+
+// The letter of a kind, in a report line and for C.
+pub fn letter_of(kind: Kind) -> u8
+    ensures { λ r. ⌜ r ≡ letterOf kind ⌝ }
+{
+    match kind {
+        Kind::Matrix => b'S',
+        Kind::Array => b'M',
+        Kind::Unknown => b'-',
     }
 }

@@ -11,6 +11,7 @@ use word::bytes::byte_at;
 
 mod reads;
 mod say;
+mod scales;
 mod writes;
 
 // The value of a hexadecimal digit, 16 for any other character.
@@ -97,7 +98,7 @@ fn zeros(kind: usize, given: Given) -> usize
     ensures { λ r. ⌜ r ≤ 65536 ⌝ }
 {
     let values = given.values;
-    if kind == 65 {
+    if (kind == 65) | (kind == 80) {
         return lesser(values[0], 65536);
     }
     0
@@ -107,8 +108,10 @@ fn zeros(kind: usize, given: Given) -> usize
 fn say_row(kind: usize, format: usize, bytes: &[u8], given: Given) {
     match kind {
         65 => reads::address_row(bytes, given),
-        67 => reads::scale_row(format, bytes),
+        67 => scales::pack_row(format, bytes),
         69 => reads::expand_row(format, bytes, given),
+        75 => scales::words_row(bytes, given),
+        80 => reads::frame_row(bytes),
         85 => reads::unpack_row(format, bytes, given),
         87 => writes::matrix_row(format, bytes),
         88 => writes::array_row(bytes),

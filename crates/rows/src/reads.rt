@@ -1,4 +1,4 @@
-// Rows of the readers: verdicts, addressing, unpacking, expanding and scaling. The lists that a call fills are lent from the middle of longer ones.
+// Rows of the readers: verdicts, addressing, unpacking, expanding, and frames. The lists that a call fills are lent from the middle of longer ones.
 ghost use Prim.Native.Nat.{_≤_};
 use crate::Given;
 use crate::say::CANARY;
@@ -15,8 +15,6 @@ use crate::say::say_kept;
 use crate::say::say_next;
 use crate::say::say_words;
 use libc::STDOUT_FILENO;
-use rule::scaled::Scaled;
-use rule::scaled::scale;
 use verdict::lesser;
 use word::bytes::byte_at;
 
@@ -74,7 +72,7 @@ pub(crate) fn address_row(bytes: &[u8], given: Given) {
 }
 
 // How many variables were filled: none unless the answer, which is said, is complete.
-fn filled(answer: u64, bytes: &[u8]) -> usize
+pub(crate) fn filled(answer: u64, bytes: &[u8]) -> usize
     ensures { λ r. ⌜ r ≤ 64 ⌝ }
 {
     say_answer(answer);
@@ -85,7 +83,7 @@ fn filled(answer: u64, bytes: &[u8]) -> usize
 }
 
 // How many pairs so many variables have.
-fn pairs_of(n: usize) -> usize
+pub(crate) fn pairs_of(n: usize) -> usize
     requires { ⌜ n ≤ 64 ⌝ }
     ensures { λ r. ⌜ r ≤ 2016 ⌝ }
 {
@@ -160,65 +158,11 @@ pub(crate) fn expand_row(format: usize, bytes: &[u8], given: Given) {
     say_expanded(filled(answer, bytes), &words, &marks);
 }
 
-// A value without its sign.
-fn size_of(value: i64) -> u64 {
-    if value >= 0 {
-        return value as u64;
-    }
-    ((-1 - value) as u64) + 1
-}
-
-// The scaled word; nothing of a length that has none.
-fn say_scaled(word: u64, length: usize) {
-    let scaled = scale(word, length);
-    match scaled {
-        Scaled::Value(value) => {
-            let size = size_of(value);
-            if value < 0 {
-                say(b" -", size);
-                return;
-            }
-            say_next(size);
-        }
-        Scaled::Refused(_) => {}
-    }
-}
-
-// The unit of a length: what the word 0 is below nought.
-fn say_unit(length: usize) {
-    let scaled = scale(0, length);
-    match scaled {
-        Scaled::Value(value) => say(b" of ", size_of(value)),
-        Scaled::Refused(_) => {}
-    }
-}
-
-// The first so many of a list.
-fn say_scaled_words(list: &[u64; 2016], count: usize, length: usize)
-    requires { ⌜ count ≤ 2016 ⌝ }
-{
-    io::write_all(STDOUT_FILENO, b" scaled");
-    let mut i = 0;
-    while i < count {
-        say_scaled(list[i], length);
-        i += 1;
-    }
-    say_unit(length);
-}
-
-pub(crate) fn scale_row(format: usize, bytes: &[u8]) {
-    let mut fields = [0usize; 7];
-    let mut deviations = [0u64; 64];
-    let mut coefficients = [0u64; 2016];
-    let mut marks = [0u8; 2016];
-    let answer = cmatrix::matrix_unpack(
-        bytes,
-        format,
-        &mut deviations,
-        &mut coefficients,
-        &mut marks,
-    );
-    let m = pairs_of(filled(answer, bytes));
-    cmatrix::matrix_fields(bytes, format, &mut fields);
-    say_scaled_words(&coefficients, m, fields[3]);
+// What is said of the frame of these bytes, behind the letter of its kind.
+pub(crate) fn frame_row(bytes: &[u8]) {
+    let mut kind: u8 = 0;
+    let answer = cframe::frame_verdict(bytes, &mut kind);
+    put(kind);
+    put(32);
+    say_answer(answer);
 }

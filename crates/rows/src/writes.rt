@@ -146,7 +146,7 @@ fn number_at(bytes: &[u8], place: usize) -> u64 {
 }
 
 // Sixty-four numbers from a place on.
-fn words_in(bytes: &[u8], from: usize) -> [u64; 64]
+pub(crate) fn words_in(bytes: &[u8], from: usize) -> [u64; 64]
     requires { ⌜ from ≤ 1000 ⌝ }
 {
     let mut list = [0u64; 64];

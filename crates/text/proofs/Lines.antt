@@ -13,7 +13,8 @@ use Rattle.outcome.specs.declared.Kind.{Kind}
 use Rattle.outcome.specs.declared.Outcome.{Outcome}
 use Rattle.outcome.specs.declared.Outcome.the-variants.{Ok, Cut, Bad, Open}
 use Rattle.outcome.specs.declared.FrameAnswer.{FrameAnswer}
-use Rattle.text.specs.Text.{letterOf, wordOf, firstOf, secondOf, decimal, textOf}
+use Rattle.outcome.specs.Letters.{letterOf}
+use Rattle.text.specs.Text.{wordOf, firstOf, secondOf, decimal, textOf}
 use Rattle.verdict.specs.Writing.{put, decided}
 use Rattle.text.specs.Writing.{room, WrittenLine}
 use Rattle.verdict.proofs.Putting.{put-put, length-put}

@@ -5,20 +5,13 @@ use mathlib.Core.List.{List, [], _∷_, _++_}
 use lib.Dec.{ltb}
 use lib.ListN.{getD}
 use Rattle.verdict.specs.Stated.{Stated, gives, misses, refuses}
-use Rattle.outcome.specs.declared.Kind.{Kind}
-use Rattle.outcome.specs.declared.Kind.the-variants.{Matrix, Array, Unknown}
 use Rattle.outcome.specs.declared.Outcome.{Outcome}
 use Rattle.outcome.specs.declared.Outcome.the-variants.{Ok, Cut, Bad, Open}
 use Rattle.outcome.specs.declared.FrameAnswer.{FrameAnswer}
+use Rattle.outcome.specs.Letters.{letterOf}
 use Rattle.outcome.specs.Stated.{statedOutcome}
 use Rattle.text.specs.declared.Failure.{Failure}
 use Rattle.text.specs.declared.Failure.the-variants.{Reading, Writing}
-
--- S a matrix, M an array, - where the key is not known
-abbrev pub letterOf : Kind → ℕ
-letterOf Matrix = 83
-letterOf Array = 77
-letterOf Unknown = 45
 
 -- OK, CUT, BAD, OPEN
 abbrev pub wordOf : Outcome → List ℕ

@@ -4,11 +4,13 @@ ghost use mathlib.Core.List.{[], _∷_};
 ghost use Prim.Native.Nat.{_+_, _≤_};
 ghost use lib.ListN.{length};
 ghost use Rattle.verdict.specs.Writing.{put};
-ghost use Rattle.text.specs.Text.{letterOf, wordOf, firstOf, secondOf, decimal, headOf, tailOf, textOf, failureOf, failureText};
+ghost use Rattle.outcome.specs.Letters.{letterOf};
+ghost use Rattle.text.specs.Text.{wordOf, firstOf, secondOf, decimal, headOf, tailOf, textOf, failureOf, failureText};
 ghost use Rattle.text.specs.Writing.{room, WrittenLine, WrittenText};
 use outcome::FrameAnswer;
 use outcome::Kind;
 use outcome::Outcome;
+use outcome::letter_of;
 use verdict::Reason;
 use verdict::Refusal;
 use verdict::Verdict;
@@ -53,16 +55,6 @@ fn put_bytes(out: &mut [u8], place: usize, text: &[u8]) -> usize
         i += 1;
     }
     place + text.len()
-}
-
-fn letter_of(kind: Kind) -> u8
-    ensures { λ r. ⌜ r ≡ letterOf kind ⌝ }
-{
-    match kind {
-        Kind::Matrix => 83,
-        Kind::Array => 77,
-        Kind::Unknown => 45,
-    }
 }
 
 // The kind's letter between spaces.

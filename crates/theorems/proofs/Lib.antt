@@ -13,6 +13,7 @@ pub mod Stored
 pub mod Encoding
 pub mod Alone
 pub mod Noughts
+pub mod Scaled
 pub mod Symmetry
 pub mod ArrayVerdicts
 pub mod ArrayRoundTrip

@@ -145,7 +145,7 @@ module _ (m : Matrix) (l : Lawful m) (behind-deviations behind-coefficients behi
 -- ---- bytes that are read, unpacked and written
 
 -- what an answer of unpacking that is complete tells
-said-complete : (v : Verdict) (short : Bool) (n : ℕ) → saidFor v short ≡ Complete n → v ≡ Complete n
+pub said-complete : (v : Verdict) (short : Bool) (n : ℕ) → saidFor v short ≡ Complete n → v ≡ Complete n
 said-complete (Complete k) true n e = let z : _≡_ {A = ℕ} 0 1 = cc in absurd (omega arith)
 said-complete (Complete k) false n e = e
 said-complete (Unfinished k) short n e = let z : _≡_ {A = ℕ} 0 1 = cc in absurd (omega arith)

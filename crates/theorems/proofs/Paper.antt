@@ -1,5 +1,5 @@
 -- The number that C gets is document 01's: of every call, the number is `paperOf` of its answer, and no field of it is held at its greatest. Assumes nothing.
-use Prim.Native.Nat.{ℕ, _*_, _^_, _≤_, _<_}
+use Prim.Native.Nat.{ℕ, _+_, _*_, _^_, _≤_, _<_}
 use mathlib.Core.Path.{_≡_, refl, sym, subst, _∙_}
 use mathlib.Core.Bool.{Bool, true, false}
 use mathlib.Core.List.{List, [], _∷_}
@@ -10,10 +10,10 @@ use borrow.Fn.Kinds.{Dens, resT, endedOf}
 use denote.Triple.Clauses.{AtExit}
 use denote.Ref.{now}
 use lib.Dec.{eqb, ltb}
-use lib.ListN.{length, take, length-append}
+use lib.ListN.{length, take, drop, length-append}
 use lib.Seq.{length-take-le}
 use Rattle.verdict.specs.declared.Reason.{Reason}
-use Rattle.verdict.specs.declared.Reason.the-variants.{Index, Disagree}
+use Rattle.verdict.specs.declared.Reason.the-variants.{Index, Disagree, LengthDiffers, FrameShort, FrameLong}
 use Rattle.verdict.specs.declared.Verdict.{Verdict}
 use Rattle.verdict.specs.declared.Verdict.the-variants.{Complete, Unfinished, Refused}
 use Rattle.verdict.specs.Says.{Bytes, Says}
@@ -24,6 +24,7 @@ use Rattle.verdict.proofs.Cases.{by-test}
 use Rattle.verdict.proofs.Judging.{Kept}
 use Rattle.verdict.proofs.Deciding.{both-kept}
 use Rattle.verdict.proofs.Numbered.{packed-is-paper}
+use Rattle.word.proofs.Digits.{below-drop}
 use Rattle.matrix.specs.Meaning.{stating}
 use Rattle.matrix.specs.Spelling.{bytesOf as matrixBytes}
 use Rattle.matrix.specs.Machine.{verdictOf as matrixVerdict}
@@ -47,6 +48,16 @@ use Rattle.matrixwriter.specs.Writing.{writerRows as matrixRows}
 use Rattle.theorems.proofs.MatrixTrip.{writer-accepts as matrix-accepts}
 use Rattle.arraywriter.specs.Given.{meaningGiven as arrayGiven}
 use Rattle.theorems.proofs.ArrayRoundTrip.{writer-accepts as array-accepts}
+use Rattle.outcome.specs.declared.Kind.{Kind}
+use Rattle.outcome.specs.declared.Kind.the-variants.{Matrix, Array, Unknown}
+use Rattle.outcome.specs.declared.Outcome.{Outcome}
+use Rattle.outcome.specs.declared.Outcome.the-variants.{Ok, Cut, Bad, Open}
+use Rattle.outcome.specs.declared.FrameAnswer.{FrameAnswer}
+use Rattle.outcome.specs.Refusing.{refusing as refusingFrame}
+use Rattle.berlength.specs.declared.Length.{Length}
+use Rattle.berlength.specs.declared.Length.the-variants.{Missing, WrongForm, Of}
+use Rattle.berlength.specs.Lengths.{lengthOf}
+use Rattle.frame.specs.Frame.{longest, kindOf, outcomeOf, valueAnswer, lengthAnswer, keyAnswer, answerOf}
 use Rattle.theorems.specs.Paper.{PaperBy}
 use Rattle.listing.specs.Packed.{PackedBy}
 use Rattle.cmatrix.specs.Format.{toldBy, verdictBy, UnpackedUnder, ExpandedUnder}
@@ -55,6 +66,8 @@ use Rattle.cmatrix.specs.Writing.{fieldsGiven, numberRows, MatrixWritten}
 use Rattle.carray.specs.Addressed.{addressed, addressedOf}
 use Rattle.carray.specs.Numbers.{NumbersBy}
 use Rattle.carray.specs.Writing.{ArrayWritten}
+use Rattle.cframe.specs.Said.{saidOf}
+use Rattle.cwords.specs.Scaling.{scaleRows, ScaledInto}
 use Rattle.cmatrix.proofs.matrix_verdict.Kinds as matrix-verdict
 use Rattle.cmatrix.proofs.matrix_verdict.Reads as matrix-verdict-reads
 use Rattle.carray.proofs.array_verdict.Kinds as array-verdict
@@ -73,6 +86,10 @@ use Rattle.carray.proofs.array_address.Kinds as array-address
 use Rattle.carray.proofs.array_address.Reads as array-address-reads
 use Rattle.carray.proofs.array_write.Kinds as array-write
 use Rattle.carray.proofs.array_write.Reads as array-write-reads
+use Rattle.cframe.proofs.frame_verdict.Kinds as frame-verdict
+use Rattle.cframe.proofs.frame_verdict.Reads as frame-verdict-reads
+use Rattle.cwords.proofs.matrix_scale.Kinds as matrix-scale
+use Rattle.cwords.proofs.matrix_scale.Reads as matrix-scale-reads
 
 paper-by : (May : Verdict → Type 0) (number : ℕ) → PackedBy May number → ((answer : Verdict) → May answer → Occurs answer) → PaperBy May number
 paper-by May number p occurs =
@@ -119,6 +136,48 @@ address-occurs bytes indices b (Complete end) e h =
     (λ t. omega arith)
 address-occurs bytes indices b (Unfinished missing) e h = h
 address-occurs bytes indices b (Refused refusal) e h = h
+
+-- a frame's outcome, which is never open, is within its fields
+abbrev pub Within : Outcome → Type 0
+Within (Ok n) = n < 2 ^ 32
+Within (Cut missing) = missing < 2 ^ 32
+Within (Bad refusal) = refusal .place < 65536
+Within Open = ⊥
+
+abbrev WithinAnswer : FrameAnswer → Type 0
+WithinAnswer answer = Within (answer .outcome)
+
+outcome-within : (v : Verdict) (count : ℕ) → Occurs v → Within (outcomeOf v count)
+outcome-within (Complete n) count h = by-test Within (eqb n count) (Ok n) (Bad (record { reason = LengthDiffers; place = 0 })) (λ t. h) (λ t. omega arith)
+outcome-within (Unfinished missing) count h = h
+outcome-within (Refused refusal) count h = h
+
+value-within : (kind : Kind) (value : List ℕ) → Bytes value → WithinAnswer (valueAnswer kind value)
+value-within Matrix value b = outcome-within (matrixVerdict (stating false) value) (length value) (matrix-occurs 0 value b)
+value-within Array value b = outcome-within (arrayVerdict value) (length value) (array-occurs value b)
+value-within Unknown value b = omega arith
+
+length-within : (kind : Kind) (found : Length) (w : List ℕ) → Bytes w → WithinAnswer (lengthAnswer kind found w)
+length-within kind Missing w b = omega arith
+length-within kind WrongForm w b = omega arith
+length-within kind (Of value octets) w b =
+    by-test WithinAnswer (eqb (length w) (octets + value)) (valueAnswer kind (drop octets w)) (refusingFrame kind LengthDiffers) (λ t. value-within kind (drop octets w) (below-drop octets w b)) (λ t. omega arith)
+
+key-within : (kind : Kind) (w : List ℕ) → Bytes w → WithinAnswer (keyAnswer kind w)
+key-within Matrix w b = length-within Matrix (lengthOf w) w b
+key-within Array w b = length-within Array (lengthOf w) w b
+key-within Unknown w b = omega arith
+
+pub frame-within : (w : List ℕ) → Bytes w → Within (answerOf w .outcome)
+frame-within w b =
+    by-test WithinAnswer (ltb longest (length w)) (refusingFrame Unknown FrameLong) _ (λ t. omega arith)
+    (λ t. by-test WithinAnswer (ltb (length w) 16) (refusingFrame Unknown FrameShort) (keyAnswer (kindOf (take 16 w)) (drop 16 w)) (λ s. omega arith) (λ s. key-within (kindOf (take 16 w)) (drop 16 w) (below-drop 16 w b)))
+
+within-occurs : (o : Outcome) → Within o → Occurs (saidOf o)
+within-occurs (Ok n) h = h
+within-occurs (Cut missing) h = h
+within-occurs (Bad refusal) h = h
+within-occurs Open h = absurd h
 
 -- ---- of each call
 
@@ -186,3 +245,14 @@ array-write-paper κs a number s b post =
     (written-occurs _ _
     (λ k. let g = array-accepts (now (a .0)) (a .1 .0) (now (a .1 .1 .0)) (now (a .1 .1 .1 .0)) b .0 k in
     omega (arith, array-short (arrayBytes given) (record { meaning = given; lawful = g .0; spelled = refl })))))
+
+pub frame-verdict-paper : (κs : Lfts 2) (a : Dens κs frame-verdict.ps) (number : resT frame-verdict.r κs .Denot) (s : AtExit (endedOf 2 frame-verdict.ps frame-verdict.r) κs) → Bytes (now (a .0))
+    → frame-verdict-reads.Post κs a number s → PaperBy (λ answer. answer ≡ saidOf (answerOf (now (a .0)) .outcome)) number
+frame-verdict-paper κs a number s b post =
+    let outcome = answerOf (now (a .0)) .outcome in
+    paper-by _ number (record { answer = saidOf outcome; given = refl; packed = post .said }) (λ answer e. subst Occurs (sym e) (within-occurs outcome (frame-within (now (a .0)) b)))
+
+-- of fewer than 2^32 words
+pub matrix-scale-paper : (κs : Lfts 2) (a : Dens κs matrix-scale.ps) (number : resT matrix-scale.r κs .Denot) (s : AtExit (endedOf 2 matrix-scale.ps matrix-scale.r) κs) → length (now (a .0)) < 2 ^ 32
+    → matrix-scale-reads.Post κs a number s → PaperBy (λ answer. ScaledInto (now (a .0)) (a .1 .0) (now (a .1 .1 .0)) answer (now (s .1 .1 .0))) number
+matrix-scale-paper κs a number s few post = paper-by _ number post (λ answer m. subst Occurs (sym (m .said)) (written-occurs (scaleRows (a .1 .0) (now (a .0)) (length (now (a .1 .1 .0)))) _ (λ k. few)))

@@ -1,6 +1,7 @@
 pub mod Said
 pub mod Paper
 pub mod Stored
+pub mod Scaled
 pub mod Encoding
 pub mod ArrayTrip
 pub mod Rows

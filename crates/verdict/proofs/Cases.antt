@@ -12,6 +12,11 @@ pub either : {P : Type 0} (t : Bool) → (t ≡ true → P) → (t ≡ false →
 either true f g = f refl
 either false f g = g refl
 
+-- two tests that both hold
+pub both-true : (a b : Bool) → a && b ≡ true → (a ≡ true) × (b ≡ true)
+both-true true b e = (refl, e)
+both-true false b e = absurd (false≢true e)
+
 -- of two tests that do not both hold, the second fails where the first holds
 pub and-right : (a b : Bool) → a && b ≡ false → a ≡ true → b ≡ false
 and-right true b e h = e

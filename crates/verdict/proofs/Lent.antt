@@ -14,16 +14,16 @@ use Rattle.verdict.specs.Writing.{refusing}
 use Rattle.verdict.specs.Lent.{over, saidFor, leftFor}
 use Rattle.verdict.specs.Filling.{overFirst}
 
-over-more : (values out : List ℕ) (i : ℕ) → i < length values → i < length out → set (overFirst i values out) i (getD values i 0) ≡ overFirst (i + 1) values out
-over-more values out i h k =
-    rw (add-one, take-suc values i 0 h, drop-cons out i 0 k, append-snoc)
-    (set-at (take i values) (getD out i 0) (drop (suc i) out) (getD values i 0) i (length-take-le i values (omega arith)))
+over-more : {A : Type 0} (d : A) (values out : List A) (i : ℕ) → i < length values → i < length out → set (overFirst i values out) i (getD values i d) ≡ overFirst (i + 1) values out
+over-more d values out i h k =
+    rw (add-one, take-suc values i d h, drop-cons out i d k, append-snoc)
+    (set-at (take i values) (getD out i d) (drop (suc i) out) (getD values i d) i (length-take-le i values (omega arith)))
 
 -- a list whose first entries are filled
-module _ (values out₀ out : List ℕ) (i : ℕ) (is : out ≡ overFirst i values out₀) where
+module _ {A : Type 0} (values out₀ out : List A) (i : ℕ) (is : out ≡ overFirst i values out₀) where
   -- one entry more
-  pub filled-more : (value : ℕ) → i < length values → i < length out₀ → value ≡ getD values i 0 → set out i value ≡ overFirst (i + 1) values out₀
-  filled-more value h k e = rw (is, e) (over-more values out₀ i h k)
+  pub filled-more : (d value : A) → i < length values → i < length out₀ → value ≡ getD values i d → set out i value ≡ overFirst (i + 1) values out₀
+  filled-more d value h k e = rw (is, e) (over-more d values out₀ i h k)
 
   pub filled-length : i ≤ length values → i ≤ length out₀ → length out ≡ length out₀
   filled-length h k = ap length is ∙ simp (length-append, length-take, length-drop) (omega arith)
@@ -33,12 +33,12 @@ module _ (values out₀ out : List ℕ) (i : ℕ) (is : out ≡ overFirst i valu
   filled-all e = is ∙ rw (← e, take-all (length values) values (omega arith))
 
 -- the same values over the same list
-pub over-same : (values others out left : List ℕ) → left ≡ over others out → values ≡ others → left ≡ over values out
+pub over-same : {A : Type 0} (values others out left : List A) → left ≡ over others out → values ≡ others → left ≡ over values out
 over-same values others out left e same = rw same e
 
 -- ---- a call that is not complete changes nothing
 
-module _ (values out : List ℕ) where
+module _ {A : Type 0} (values out : List A) where
   -- a verdict other than complete is answered whatever room there is
   pub unfinished-kept : (missing : ℕ) (short : Bool) → (saidFor (Unfinished missing) short ≡ Unfinished missing) × (leftFor (saidFor (Unfinished missing) short) values out ≡ out)
   unfinished-kept missing short = (refl, refl)

@@ -1,5 +1,4 @@
 -- What a call that fills lent lists answers, and what it leaves in them: they change only where the answer is complete.
-use Prim.Native.Nat.{ℕ}
 use mathlib.Core.Bool.{Bool, cond}
 use mathlib.Core.List.{List, _++_}
 use lib.ListN.{length, drop}
@@ -9,7 +8,7 @@ use Rattle.verdict.specs.declared.Verdict.the-variants.{Complete, Unfini
 use Rattle.verdict.specs.Writing.{refusing}
 
 -- values over the first entries of a list; those past them stay
-abbrev pub over : List ℕ → List ℕ → List ℕ
+abbrev pub over : {A : Type 0} → List A → List A → List A
 over values out = values ++ drop (length values) out
 
 -- a verdict other than complete first, then 13
@@ -19,7 +18,7 @@ saidFor (Unfinished missing) short = Unfinished missing
 saidFor (Refused refusal) short = Refused refusal
 
 -- what is left in a lent list: these values where the answer is complete
-abbrev pub leftFor : Verdict → List ℕ → List ℕ → List ℕ
+abbrev pub leftFor : {A : Type 0} → Verdict → List A → List A → List A
 leftFor (Complete n) values out = over values out
 leftFor (Unfinished missing) values out = out
 leftFor (Refused refusal) values out = out

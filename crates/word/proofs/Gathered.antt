@@ -14,6 +14,7 @@ use lib.Seq.{take-suc}
 use Rattle.verdict.specs.declared.Judged.the-variants.{Kept, Broken}
 use Rattle.verdict.specs.declared.Reason.the-variants.{ValueRange}
 use Rattle.verdict.specs.Judgement.{judgement}
+use Rattle.verdict.proofs.Cases.{both-true}
 use Rattle.word.specs.Many.{allBelow, gatheredOn, gathered, tooLongRows}
 use Rattle.word.proofs.Digits.{bytes-bits}
 
@@ -34,11 +35,11 @@ or-below k a b = go (ltb a (2 ^ k)) (ltb b (2 ^ k)) refl refl
 
 gathered-on-below : (k value : ℕ) (words : List ℕ) → ltb (gatheredOn value words) (2 ^ k) ≡ ltb value (2 ^ k) && allBelow (2 ^ k) words
 unfolding gatheredOn allBelow
-gathered-on-below k value [] = both-true (ltb value (2 ^ k))
+gathered-on-below k value [] = alone (ltb value (2 ^ k))
   where
-    both-true : (t : Bool) → t ≡ t && true
-    both-true true = refl
-    both-true false = refl
+    alone : (t : Bool) → t ≡ t && true
+    alone true = refl
+    alone false = refl
 gathered-on-below k value (word ∷ words) =
     gathered-on-below k (bitOr value word) words ∙ ap (λ (t : Bool). t && allBelow (2 ^ k) words) (or-below k value word) ∙ and-assoc (ltb value (2 ^ k)) (ltb word (2 ^ k)) (allBelow (2 ^ k) words)
 
@@ -80,6 +81,21 @@ pub all-below : (limit : ℕ) (words : List ℕ) → ((i : ℕ) → i < length w
 unfolding allBelow
 all-below limit [] h = refl
 all-below limit (word ∷ words) h = rw (lt-ltb word limit (h 0 (omega arith)), all-below limit words (λ i l. h (suc i) (omega arith)))
+
+-- and each is where all are
+pub below-at : (limit : ℕ) (words : List ℕ) → allBelow limit words ≡ true → (i : ℕ) → i < length words → getD words i 0 < limit
+unfolding allBelow
+below-at limit [] all i h = absurd (omega arith)
+below-at limit (word ∷ words) all zero h = ltb-true word limit (both-true (ltb word limit) (allBelow limit words) all .0)
+below-at limit (word ∷ words) all (suc i) h = below-at limit words (both-true (ltb word limit) (allBelow limit words) all .1) i (omega arith)
+
+-- one that is not is enough
+pub not-all-below : (limit : ℕ) (words : List ℕ) (i : ℕ) → i < length words → limit ≤ getD words i 0 → allBelow limit words ≡ false
+not-all-below limit words i h k = go (allBelow limit words) refl
+  where
+    go : (t : Bool) → allBelow limit words ≡ t → t ≡ false
+    go true e = absurd (omega (arith, below-at limit words e i h))
+    go false e = refl
 
 -- ---- what a word too long is answered
 

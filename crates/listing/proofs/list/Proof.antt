@@ -59,7 +59,7 @@ loop-again : tie.Need-loop-again Inv-loop μ-loop
 loop-again c =
     let l = c .before .before .loop in
     let a = c .before .before .before .before .before .before .before .before .before .args in
-    (omega arith, l .inv .1, filled-more (a .numbers .now) (a .out .now) (l .out) (l .i) (l .inv .2) _ (omega arith) (omega (arith, l .inv .1)) refl)
+    (omega arith, l .inv .1, filled-more (a .numbers .now) (a .out .now) (l .out) (l .i) (l .inv .2) 0 _ (omega arith) (omega (arith, l .inv .1)) refl)
 
 enum-known-verdict-2 : tie.Need-enum-known-verdict-2 Inv-loop μ-loop
 enum-known-verdict-2 c = search needs

@@ -2,7 +2,7 @@
 use native.Mathlib.Omega.{arith}
 use borrow.Author.Needs.{needs}
 use lib.ListN.{length-set}
-use Rattle.text.specs.Text.{letterOf}
+use Rattle.outcome.specs.Letters.{letterOf}
 use Rattle.verdict.proofs.Putting.{put-three}
 use Rattle.text.proofs.put_kind.Statement.{statement}
 use Rattle.text.proofs.put_kind.Tie as tie

@@ -40,7 +40,7 @@ loop-again c =
     let s = c .before .before in
     let l = c .before .loop in
     let values = replicate (s .args .number) (s .args .mark) in
-    (omega arith, filled-more values (now (s .args .marks)) (l .marks) (l .i) (l .inv .1) (s .args .mark) (omega (arith, counted s, c .loop-test .taken)) (omega (arith, s .pre, c .loop-test .taken)) (sym (getD-replicate {A = ℕ} (s .args .number) (l .i) (s .args .mark) 0 (c .loop-test .taken))))
+    (omega arith, filled-more values (now (s .args .marks)) (l .marks) (l .i) (l .inv .1) 0 (s .args .mark) (omega (arith, counted s, c .loop-test .taken)) (omega (arith, s .pre, c .loop-test .taken)) (sym (getD-replicate {A = ℕ} (s .args .number) (l .i) (s .args .mark) 0 (c .loop-test .taken))))
 
 same-length : tie.Need-same-length Inv-loop μ-loop
 same-length c = kept (c .before)

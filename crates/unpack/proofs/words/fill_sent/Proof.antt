@@ -125,8 +125,8 @@ loop-again c =
       (
         omega (arith, l .loop .inv .1 .0, coefficient-next (bytes l) (g .args .found) (g .pre .0) (l .loop .pair) (l .loop .place) (mark .result) b (place-is l) (mark .ensures)),
         (
-          filled-more (m .coefficients) (now (g .args .coefficients)) (l .loop .coefficients) (l .loop .pair) (l .loop .inv .1 .1 .0) (c .word-or .result) (omega (arith, b, coefficient-count (bytes l) (g .args .found) (g .pre .0))) (omega (arith, b, g .pre .1 .0)) is,
-          filled-more (m .marks) (now (g .args .marks)) (l .loop .marks) (l .loop .pair) (l .loop .inv .1 .1 .1) (mark .result) (omega (arith, b, mark-count (bytes l) (g .args .found) (g .pre .0))) (omega (arith, b, g .pre .1 .1)) (mark .ensures),
+          filled-more (m .coefficients) (now (g .args .coefficients)) (l .loop .coefficients) (l .loop .pair) (l .loop .inv .1 .1 .0) 0 (c .word-or .result) (omega (arith, b, coefficient-count (bytes l) (g .args .found) (g .pre .0))) (omega (arith, b, g .pre .1 .0)) is,
+          filled-more (m .marks) (now (g .args .marks)) (l .loop .marks) (l .loop .pair) (l .loop .inv .1 .1 .1) 0 (mark .result) (omega (arith, b, mark-count (bytes l) (g .args .found) (g .pre .0))) (omega (arith, b, g .pre .1 .1)) (mark .ensures),
         ),
       ),
     )

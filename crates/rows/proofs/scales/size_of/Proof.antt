@@ -1,12 +1,12 @@
--- `reads::size_of` is safe: what is below nought is taken from -1, and one is added behind the cast. Assumes nothing.
+-- `scales::size_of` is safe: what is below nought is taken from -1, and one is added behind the cast. Assumes nothing.
 use lib.IntN.{ℤ}
 use mir.Syntax.{w64}
 use mir.Val.{SFits, toZ, ofZ}
 use mir.ValLaws.{toZ-fits, ofZ-fits}
 use borrow.Author.Needs.{needs}
 use Rattle.rows.proofs.Sizes.{above, turned-fits, turned-above, turned-more}
-use Rattle.rows.proofs.reads.size_of.Statement.{statement}
-use Rattle.rows.proofs.reads.size_of.Tie as tie
+use Rattle.rows.proofs.scales.size_of.Statement.{statement}
+use Rattle.rows.proofs.scales.size_of.Tie as tie
 
 -- the value as its 64 bits hold it
 abbrev held : tie.Start → ℤ

@@ -1,0 +1,3 @@
+pub mod Scaling
+pub mod Answers
+pub mod Only
