@@ -1,51 +1,12 @@
-/* The best reader and writer in C that we can write: the first byte of a word mostly settles it, words are loaded and stored whole, loops are made for each length. */
-#include "reader.h"
+/* The best reader in C that we can write, its verdicts: the bits of whole blocks of words are put together, and words are looked at only in a block that
+ * these do not settle. */
+#include "best.h"
 
-#define INLINE static inline __attribute__((always_inline))
-
-/* Makes `call` with L a constant for each length of a word. */
-#define FOR_LENGTH(length, call)                     \
-    switch (length) {                                \
-    case 1: { enum { L = 1 }; call; break; }         \
-    case 2: { enum { L = 2 }; call; break; }         \
-    case 3: { enum { L = 3 }; call; break; }         \
-    case 4: { enum { L = 4 }; call; break; }         \
-    case 5: { enum { L = 5 }; call; break; }         \
-    case 6: { enum { L = 6 }; call; break; }         \
-    case 7: { enum { L = 7 }; call; break; }         \
-    case 8: { enum { L = 8 }; call; break; }         \
-    }
-
-/* The word of so many bytes where they are: of a power of two, one load and a swap. */
-INLINE uint64_t load(const uint8_t *b, size_t length) {
-    uint64_t eight, word = 0;
-    uint32_t four;
-    uint16_t two;
-    switch (length) {
-    case 8: memcpy(&eight, b, 8); return __builtin_bswap64(eight);
-    case 4: memcpy(&four, b, 4); return __builtin_bswap32(four);
-    case 2: memcpy(&two, b, 2); return __builtin_bswap16(two);
-    }
-    for (size_t i = 0; i < length; i++) word = word << 8 | b[i];
-    return word;
-}
-
-INLINE void store(uint8_t *b, size_t length, uint64_t word) {
-    uint64_t eight = __builtin_bswap64(word);
-    uint32_t four = __builtin_bswap32(word);
-    uint16_t two = __builtin_bswap16(word);
-    switch (length) {
-    case 8: memcpy(b, &eight, 8); return;
-    case 4: memcpy(b, &four, 4); return;
-    case 2: memcpy(b, &two, 2); return;
-    }
-    for (size_t i = 0; i < length; i++) b[i] = word >> 8 * (length - 1 - i);
-}
+/* ---- the bit vector */
 
 static size_t ones(const uint8_t *b, size_t count) {
     size_t sum = 0, i = 0;
-    uint64_t eight;
-    for (; i + 8 <= count; i += 8) memcpy(&eight, b + i, 8), sum += __builtin_popcountll(eight);
+    for (; i + 8 <= count; i += 8) sum += __builtin_popcountll(raw(b + i));
     for (; i < count; i++) sum += __builtin_popcount(b[i]);
     return sum;
 }
@@ -59,68 +20,149 @@ INLINE uint64_t vector(const uint8_t *b, size_t count, const struct fields *f, s
     return GO_ON;
 }
 
-/* The greatest beginning of so many words, the sign cleared: the first byte settles nearly every mapped word, the first two nearly every IEEE one. */
-INLINE unsigned greatest_first(const uint8_t *b, size_t at, size_t number, size_t length, unsigned mask) {
-    unsigned most = 0;
-    for (size_t i = 0; i < number; i++) {
-        unsigned first = b[at + i * length] & mask;
-        most = first > most ? first : most;
-    }
-    return most;
+/* ---- words: so many of one length, one behind the other */
+
+/* The tops of the words in eight bytes, which are the k-th eight of words of one length. */
+INLINE uint64_t tops(size_t length, size_t k) {
+    uint64_t mask = 0;
+    for (size_t i = 0; i < 8; i++) mask |= (8 * k + i) % length == 0 ? 0x80ull << 8 * i : 0;
+    return mask;
 }
 
-INLINE unsigned greatest_two(const uint8_t *b, size_t at, size_t number, size_t length, unsigned mask) {
-    unsigned most = 0;
-    for (size_t i = 0; i < number; i++) {
-        unsigned two = load(b + at + i * length, 2) & mask;
-        most = two > most ? two : most;
+/* The top bits that mapped words have, of a length that divides eight: the last eight bytes may be taken twice. */
+INLINE uint64_t tops_whole(const uint8_t *b, size_t number, size_t length) {
+    size_t bytes = number * length, i = 0;
+    uint64_t all = 0;
+    if (bytes < 8) {
+        for (; i < bytes; i += length) all |= b[i];
+        return all & 0x80;
     }
-    return most;
+    EIGHT_BY_EIGHT
+    for (; i + 8 <= bytes; i += 8) all |= raw(b + i);
+    return (all | raw(b + bytes - 8)) & tops(length, 0);
 }
 
-/* Whether the first of so many words all keep a rule, by their beginnings. */
-static int settled(const uint8_t *b, size_t at, size_t number, struct rule rule, int mapped) {
-    unsigned most = 0;
-    if (mapped) {
-        FOR_LENGTH(rule.length, most = greatest_first(b, at, number, L, 255))
-        return most < rule.greatest >> 8 * (rule.length - 1);
-    }
-    unsigned mask = rule.sign ? 0x7FFF : 0xFFFF;
-    switch (rule.length) {
-    case 2: return greatest_two(b, at, number, 2, mask) <= rule.greatest;
-    case 4: most = greatest_two(b, at, number, 4, mask); break;
-    case 8: most = greatest_two(b, at, number, 8, mask); break;
-    }
-    return most < rule.greatest >> 8 * (rule.length - 2);
+/* And of another length: eight words are as many eights as a word has bytes. */
+INLINE uint64_t tops_apart(const uint8_t *b, size_t number, size_t length) {
+    uint64_t all[8] = {0}, any = 0;
+    for (; number >= 8; number -= 8, b += 8 * length)
+        for (size_t k = 0; k < length; k++) all[k] |= raw(b + 8 * k);
+    for (size_t k = 0; k < length; k++) any |= all[k] & tops(length, k);
+    for (; number > 0; number--, b += length) any |= *b & 0x80;
+    return any;
 }
 
-/* The byte of the words up to a place that breaks their rule, or that place. */
-static size_t broken_at(const uint8_t *b, size_t at, size_t until, struct rule rule) {
-    for (; at < until; at += rule.length) {
-        uint64_t word = 0;
-        size_t stop = lesser(at + rule.length, until);
-        for (size_t i = at, left = 8 * rule.length; i < stop; i++) {
-            left -= 8;
-            word = word << 8 | b[i];
-            if ((word & ~(rule.sign >> left)) > rule.greatest >> left) return i;
+/* Whether a block of mapped words is settled. */
+INLINE int mapped_settled(const uint8_t *b, size_t number, size_t length) {
+    return (8 % length == 0 ? tops_whole(b, number, length) : tops_apart(b, number, length)) == 0;
+}
+
+typedef uint16_t twos __attribute__((vector_size(16)));
+typedef uint32_t fours __attribute__((vector_size(16)));
+
+/* Sixteen bytes in which words begin: as they stand, or of words of eight bytes the first half of each of four. */
+INLINE twos beginnings(const uint8_t *b, size_t length) {
+    fours one, two;
+    memcpy(&one, b, 16);
+    if (length < 8) return (twos)one;
+    memcpy(&two, b + 16, 16);
+    return (twos)__builtin_shufflevector(one, two, 0, 2, 4, 6);
+}
+
+/* How far each two bytes are above others, once turned by some bits: by eight a word's first byte is the higher, by nine its sign is the lowest bit. */
+INLINE twos excess(twos two, int turn, uint16_t others) {
+    two = two << turn | two >> (16 - turn);
+    return (two - others) & (twos)(two > others);
+}
+
+/* Whether a block of IEEE words is settled: the first two bytes of each are below the rule's; the last may be taken twice. */
+INLINE int ieee_settled(const uint8_t *b, size_t number, size_t length, struct rule rule, int turn) {
+    uint16_t others = (rule.greatest >> (8 * length - 16) << (turn - 8)) - 1;
+    size_t bytes = number * length, half = length < 8 ? 16 : 32, i = 0;
+    twos one = {0}, two = {0};
+    unsigned any = 0;
+    if (bytes < 2 * half) return 0;
+    for (; i < bytes; i += 2 * half) {
+        const uint8_t *from = b + lesser(i, bytes - 2 * half);
+        one |= excess(beginnings(from, length), turn, others), two |= excess(beginnings(from + half, length), turn, others);
+    }
+    one |= two;
+    for (size_t k = 0; k < 8; k += length == 2 ? 1 : 2) any |= one[k];
+    return !any;
+}
+
+/* Whether each word of a block keeps its rule, without a branch: from each but the last two on there are eight bytes. */
+INLINE int each_kept(const uint8_t *b, size_t number, size_t length, struct rule rule) {
+    unsigned broken = 0;
+    size_t i = 0;
+    if (length <= 2 || length == 4) {
+        for (; i < number; i++) broken |= ((uint32_t)load(b + i * length, length) & ~(uint32_t)rule.sign) > (uint32_t)rule.greatest;
+        return !broken;
+    }
+    ONE_BY_ONE
+    for (; i + 2 < number; i++) broken |= (load_wide(b + i * length, length) & ~rule.sign) > rule.greatest;
+    for (; i < number; i++) broken |= (load(b + i * length, length) & ~rule.sign) > rule.greatest;
+    return !broken;
+}
+
+/* How words are settled: by their tops, or by their first two bytes turned by so many bits. */
+enum form { MAPPED = 0, DEVIATION = 8, COEFFICIENT = 9 };
+
+/* How many words keep their rule, up to the first that does not; a block is a thousand bytes or so. */
+INLINE size_t kept(const uint8_t *b, size_t number, size_t length, struct rule rule, enum form form) {
+    size_t i = 0, block = 1024 / length & ~7;
+    while (i < number) {
+        size_t some = lesser(block, number - i);
+        const uint8_t *from = b + i * length;
+        int settled = form == MAPPED ? mapped_settled(from, some, length) : ieee_settled(from, some, length, rule, form);
+        if (!settled && !each_kept(from, some, length, rule)) {
+            while ((load(b + i * length, length) & ~rule.sign) <= rule.greatest) i++;
+            return i;
         }
+        i += some;
+    }
+    return number;
+}
+
+static size_t mapped_kept(const uint8_t *b, size_t number, struct rule rule) {
+    size_t until = 0;
+    FOR_LENGTH(rule.length, until = kept(b, number, L, rule, MAPPED))
+    return until;
+}
+
+static size_t ieee_kept(const uint8_t *b, size_t number, struct rule rule) {
+    switch (rule.length) {
+    case 2: return rule.sign ? kept(b, number, 2, rule, COEFFICIENT) : kept(b, number, 2, rule, DEVIATION);
+    case 4: return rule.sign ? kept(b, number, 4, rule, COEFFICIENT) : kept(b, number, 4, rule, DEVIATION);
+    }
+    return rule.sign ? kept(b, number, 8, rule, COEFFICIENT) : kept(b, number, 8, rule, DEVIATION);
+}
+
+/* The byte of a word, cut at a place or whole, that breaks its rule, or that place. */
+static size_t broken_at(const uint8_t *b, size_t at, size_t until, struct rule rule) {
+    uint64_t word = 0;
+    for (size_t left = 8 * rule.length; at < until && left; at++) {
+        left -= 8;
+        word = word << 8 | b[at];
+        if ((word & ~(rule.sign >> left)) > rule.greatest >> left) return at;
     }
     return until;
 }
 
 static uint64_t words(const uint8_t *b, size_t count, size_t *place, size_t number, struct rule rule, int mapped, size_t after) {
-    size_t end = *place + number * rule.length, until = lesser(end, count);
-    if (until < end || !settled(b, *place, number, rule, mapped)) {
-        size_t broken = broken_at(b, *place, until, rule);
+    size_t end = *place + number * rule.length, until = lesser(end, count), whole = until == end ? number : (until - *place) / rule.length;
+    size_t good = mapped ? mapped_kept(b + *place, whole, rule) : ieee_kept(b + *place, whole, rule);
+    if (good < number) {
+        size_t broken = broken_at(b, *place + good * rule.length, until, rule);
         if (broken < until) return REFUSED(11, broken);
-        if (until < end) return UNFINISHED(end - until + after);
+        return UNFINISHED(end - until + after);
     }
     *place = end;
     return GO_ON;
 }
 
-/* What stands behind the control bytes, its place a constant for each mode. */
-INLINE uint64_t walk_from(const uint8_t *b, size_t count, const struct fields *f, size_t at, size_t *first, size_t *length) {
+/* What stands behind the control bytes, its place a constant for each mode; mapped words of one length are all passed at once. */
+INLINE uint64_t walk_from(const uint8_t *b, size_t count, const struct fields *f, size_t at, size_t *first) {
     uint64_t said = GO_ON;
     size_t sent = f->clen ? pairs(f->n) : 0;
     if (f->cs) {
@@ -128,160 +170,31 @@ INLINE uint64_t walk_from(const uint8_t *b, size_t count, const struct fields *f
         if (said != GO_ON) return said;
         at += (pairs(f->n) + 7) / 8;
     }
-    *first = *length = at;
-    if (f->slen) said = words(b, count, length, f->n, deviation_rule(f->sf, f->slen), f->sf, sent * f->clen);
-    if (said == GO_ON && f->clen) said = words(b, count, length, sent, coefficient_rule(f->cf, f->clen), f->cf, 0);
-    return said == GO_ON ? COMPLETE(*length) : said;
+    *first = at;
+    if (f->sf && f->cf && f->slen == f->clen) {
+        said = words(b, count, &at, f->n + sent, mapped_rule(f->clen), 1, 0);
+    } else {
+        if (f->slen) said = words(b, count, &at, f->n, deviation_rule(f->sf, f->slen), f->sf, sent * f->clen);
+        if (said == GO_ON && f->clen) said = words(b, count, &at, sent, coefficient_rule(f->cf, f->clen), f->cf, 0);
+    }
+    return said == GO_ON ? COMPLETE(at) : said;
 }
 
-INLINE uint64_t walk(const uint8_t *b, size_t count, size_t format, struct fields *f, size_t *first, size_t *length) {
+INLINE uint64_t walk(const uint8_t *b, size_t count, size_t format, struct fields *f, size_t *first) {
     uint64_t said = header(b, count, format, f);
     if (said != GO_ON) return said;
-    return f->mode == 2 ? walk_from(b, count, f, 3, first, length) : walk_from(b, count, f, 2, first, length);
+    return f->mode == 2 ? walk_from(b, count, f, 3, first) : walk_from(b, count, f, 2, first);
 }
+
+uint64_t best_walk(const uint8_t *b, size_t count, size_t format, struct fields *f, size_t *first) { return walk(b, count, format, f, first); }
 
 uint64_t best_matrix_verdict(const uint8_t *b, size_t count, size_t format) {
     struct fields f;
-    size_t first, length;
-    return walk(b, count, format, &f, &first, &length);
+    size_t first;
+    return walk(b, count, format, &f, &first);
 }
 
-INLINE void load_all(const uint8_t *b, size_t at, size_t length, size_t number, uint64_t *out) {
-    for (size_t i = 0; i < number; i++) out[i] = load(b + at + i * length, length);
-}
-
-INLINE void load_sent(const uint8_t *b, const uint8_t *bits, size_t at, size_t length, size_t number, uint64_t none, uint64_t *out, uint8_t *marks) {
-    for (size_t i = 0; i < number; i++) {
-        uint8_t mark = bits[i / 8] >> (7 - i % 8) & 1;
-        marks[i] = mark;
-        out[i] = mark ? load(b + at, length) : none;
-        at += mark ? length : 0;
-    }
-}
-
-static void load_deviations(const uint8_t *b, size_t at, const struct fields *f, uint64_t *out) {
-    if (f->slen == 0) memset(out, 0, 8 * f->n);
-    FOR_LENGTH(f->slen, load_all(b, at, L, f->n, out))
-}
-
-uint64_t best_matrix_unpack(const uint8_t *b, size_t count, size_t format, uint64_t *deviations, size_t deviations_count,
-                            uint64_t *coefficients, size_t coefficients_count, uint8_t *marks, size_t marks_count) {
-    struct fields f;
-    size_t at, length;
-    uint64_t said = walk(b, count, format, &f, &at, &length);
-    if (said >> 32) return said;
-    size_t m = pairs(f.n);
-    if (deviations_count < f.n || coefficients_count < m || marks_count < m) return REFUSED(13, 0);
-    load_deviations(b, at, &f, deviations);
-    at += f.n * f.slen;
-    if (f.cs) {
-        FOR_LENGTH(f.clen, load_sent(b, b + start(&f), at, L, m, nought(&f), coefficients, marks))
-    } else {
-        memset(marks, f.clen != 0, m);
-        if (f.clen == 0) memset(coefficients, 0, 8 * m);
-        FOR_LENGTH(f.clen, load_all(b, at, L, m, coefficients))
-    }
-    return said;
-}
-
-INLINE void expand_pairs(const uint8_t *b, size_t at, size_t length, const struct fields *f, uint64_t *cells, uint8_t *marks) {
-    size_t n = f->n, pair = 0, sparse = f->cs;
-    const uint8_t *bits = b + start(f);
-    uint64_t none = nought(f);
-    for (size_t i = 0; i < n; i++)
-        for (size_t j = i + 1; j < n; j++, pair++) {
-            uint8_t mark = sparse ? bits[pair / 8] >> (7 - pair % 8) & 1 : length != 0;
-            uint64_t word = mark ? load(b + at, length) : none;
-            at += mark ? length : 0;
-            cells[i * n + j] = word, cells[j * n + i] = word;
-            marks[i * n + j] = mark, marks[j * n + i] = mark;
-        }
-}
-
-uint64_t best_matrix_expand(const uint8_t *b, size_t count, size_t format, uint64_t *cells, size_t cells_count, uint8_t *marks,
-                            size_t marks_count) {
-    struct fields f;
-    size_t at, length;
-    uint64_t said = walk(b, count, format, &f, &at, &length), deviations[64];
-    if (said >> 32) return said;
-    if (cells_count < f.n * f.n || marks_count < f.n * f.n) return REFUSED(13, 0);
-    load_deviations(b, at, &f, deviations);
-    for (size_t i = 0; i < f.n; i++) cells[i * f.n + i] = deviations[i], marks[i * f.n + i] = f.slen != 0;
-    at += f.n * f.slen;
-    if (f.clen == 0) expand_pairs(b, at, 0, &f, cells, marks);
-    FOR_LENGTH(f.clen, expand_pairs(b, at, L, &f, cells, marks))
-    return said;
-}
-
-INLINE void store_all(uint8_t *out, size_t length, const uint64_t *words, size_t number) {
-    for (size_t i = 0; i < number; i++) store(out + i * length, length, words[i]);
-}
-
-INLINE void store_sent(uint8_t *out, size_t length, const uint64_t *words, const uint8_t *marks, size_t number) {
-    for (size_t i = 0; i < number; i++)
-        if (marks[i]) store(out, length, words[i]), out += length;
-}
-
-static void store_vector(uint8_t *out, const uint8_t *marks, size_t m) {
-    size_t i = 0;
-    uint64_t eight;
-    for (; i + 8 <= m; i += 8) {
-        memcpy(&eight, marks + i, 8);
-        out[i / 8] = eight * 0x8040201008040201 >> 56;
-    }
-    if (i < m) {
-        unsigned last = 0;
-        for (size_t k = i; k < m; k++) last |= marks[k] << (7 - k % 8);
-        out[i / 8] = last;
-    }
-}
-
-static int words_fit(const struct rule *rule, const uint64_t *words, size_t number) {
-    for (size_t i = 0; i < number; i++)
-        if ((words[i] & ~rule->sign) > rule->greatest) return 0;
-    return 1;
-}
-
-static int sent_fit(const struct rule *rule, const uint64_t *words, const uint8_t *marks, size_t number) {
-    for (size_t i = 0; i < number; i++)
-        if (marks[i] && (words[i] & ~rule->sign) > rule->greatest) return 0;
-    return 1;
-}
-
-uint64_t best_matrix_write(const size_t *given, size_t given_count, size_t format, const uint64_t *deviations, size_t deviations_count,
-                           const uint64_t *coefficients, size_t coefficients_count, const uint8_t *marks, size_t marks_count,
-                           uint8_t *out, size_t out_count) {
-    if (!are_fields(given, given_count, format)) return REFUSED(14, 0);
-    struct fields f = {given[0], given[1], given[2], given[3], given[4], given[5], given[6]};
-    unsigned broken = judge_fields(f, format);
-    if (broken) return REFUSED(broken, 0);
-    size_t m = pairs(f.n), v = f.cs ? (m + 7) / 8 : 0, sent = 0;
-    if (!formats_agree(&f, format) || deviations_count < f.n || coefficients_count < m || marks_count < m) return REFUSED(14, 0);
-    uint8_t most = f.clen != 0, least = f.cs ? 0 : most, unfit = 0;
-    for (size_t i = 0; i < m; i++) unfit |= (marks[i] > most) | (marks[i] < least);
-    if (unfit) return REFUSED(14, 0);
-    if (f.cs)
-        for (size_t i = 0; i < m; i++) sent += marks[i];
-    else
-        sent = m * most;
-    if (f.cs && f.slen == 0 && sent == 0) return REFUSED(9, 0);
-    struct rule rule = deviation_rule(f.sf, f.slen);
-    if (f.slen && !words_fit(&rule, deviations, f.n)) return REFUSED(11, 0);
-    rule = coefficient_rule(f.cf, f.clen);
-    if (f.cs ? !sent_fit(&rule, coefficients, marks, m) : f.clen && !words_fit(&rule, coefficients, m)) return REFUSED(11, 0);
-    size_t at = start(&f) + v, length = at + f.n * f.slen + sent * f.clen;
-    if (out_count < length) return REFUSED(13, 0);
-    put_header(out, &f);
-    if (v) store_vector(out + start(&f), marks, m);
-    FOR_LENGTH(f.slen, store_all(out + at, L, deviations, f.n))
-    at += f.n * f.slen;
-    if (f.cs) {
-        FOR_LENGTH(f.clen, store_sent(out + at, L, coefficients, marks, m))
-    } else {
-        FOR_LENGTH(f.clen, store_all(out + at, L, coefficients, m))
-    }
-    return COMPLETE(length);
-}
+/* ---- arrays */
 
 /* A number of one octet at once, of more octets one after the other. */
 INLINE uint64_t number(const uint8_t *b, size_t count, size_t *place, int positive, size_t most, size_t *value) {
@@ -303,16 +216,28 @@ INLINE uint64_t number(const uint8_t *b, size_t count, size_t *place, int positi
     return UNFINISHED(0);
 }
 
+/* A number that with others multiplies to at most 32,768: one octet asks for no division. */
+INLINE uint64_t factor(const uint8_t *b, size_t count, size_t *place, int positive, size_t product, size_t *value) {
+    if (*place < count && b[*place] < 128) {
+        *value = b[*place];
+        if (product * *value > 32768) return REFUSED(2, *place);
+        if (positive && *value == 0) return REFUSED(1, *place);
+        ++*place;
+        return GO_ON;
+    }
+    return number(b, count, place, positive, 32768 / product, value);
+}
+
 uint64_t best_array_verdict(const uint8_t *b, size_t count) {
     size_t at = 0, dims, value, product = 1;
     uint64_t said = number(b, count, &at, 1, 8, &dims);
     if (said != GO_ON) return said >> 32 == 1 ? UNFINISHED(4) : said;
     for (size_t i = 0; i < dims; i++) {
-        said = number(b, count, &at, 1, 32768 / product, &value);
+        said = factor(b, count, &at, 1, product, &value);
         if (said != GO_ON) return said >> 32 == 1 ? UNFINISHED(dims - i + 2) : said;
         product *= value;
     }
-    said = number(b, count, &at, 0, 32768 / product, &value);
+    said = factor(b, count, &at, 0, product, &value);
     if (said != GO_ON) return said >> 32 == 1 ? UNFINISHED(2 + product * (value << 7)) : said;
     if (at >= count) return UNFINISHED(1 + product * value);
     if (b[at] != 1) return REFUSED(b[at] == 0 ? 1 : b[at] == 0x80 ? 3 : 12, at);

@@ -72,30 +72,44 @@ static void plain(void) {
     }
 }
 
-/* ---- the best program: large blocks, a table of digits, its own decimals */
+/* ---- the best program: large blocks, 32 characters at a time, its own decimals */
 
-static int16_t pairs_of[65536];
+enum { SOME = 32 };
+typedef uint8_t characters __attribute__((vector_size(SOME)));
+typedef uint16_t couples __attribute__((vector_size(SOME)));
+typedef uint8_t spelt __attribute__((vector_size(SOME / 2)));
 
-static void fill_pairs(void) {
-    for (int c = 0; c < 65536; c++) {
-        int high = digit(c & 255), low = digit(c >> 8);
-        pairs_of[c] = high < 0 || low < 0 ? -1 : high * 16 + low;
+/* The bytes that 32 characters spell, or 0 where one is no digit. */
+static inline int spell(const char *text, uint8_t *out) {
+    characters c;
+    memcpy(&c, text, SOME);
+    characters letter = (characters)((c - 'A') < 6), wrong = ~((characters)((c - '0') < 10) | letter);
+    couples two = (couples)((c & 15) + (letter & 9));
+    spelt bytes = __builtin_convertvector((two << 4 | two >> 8) & 255, spelt);
+    memcpy(out, &bytes, SOME / 2);
+    uint64_t any[SOME / 8];
+    memcpy(any, &wrong, SOME);
+    return (any[0] | any[1] | any[2] | any[3]) == 0;
+}
+
+/* Whether a line spells bytes; the last 32 characters may be taken twice. */
+static int spell_line(const char *line, size_t count, uint8_t *bytes) {
+    if (count < SOME) {
+        int wrong = 0;
+        for (size_t i = 0; i < count; i++) wrong |= digit(line[i]);
+        return wrong >= 0;
     }
+    for (size_t i = 0; i < count; i += SOME) {
+        size_t from = i + SOME <= count ? i : count - SOME;
+        if (!spell(line + from, bytes + from / 2)) return 0;
+    }
+    return 1;
 }
 
 static struct said best_line(const char *line, size_t count) {
     static uint8_t bytes[LONGEST / 2];
-    int wrong = 0;
     if (count > LONGEST) return bad('-', 25, 0);
-    if (count % 2) return bad('-', 20, 0);
-    for (size_t i = 0; i < count; i += 2) {
-        uint16_t two;
-        memcpy(&two, line + i, 2);
-        int value = pairs_of[two];
-        wrong |= value;
-        bytes[i / 2] = value;
-    }
-    if (wrong < 0) return bad('-', 20, 0);
+    if (count % 2 || !spell_line(line, count, bytes)) return bad('-', 20, 0);
     return examine(bytes, count / 2, 1);
 }
 
@@ -115,7 +129,6 @@ static void best(void) {
     unsigned long number = 1;
     char *end = out;
     int over = 0;
-    fill_pairs();
     while ((got = fread(in + held, 1, BLOCK, stdin)) > 0) {
         char *from = in, *stop = in + held + got, *line_end;
         while ((line_end = memchr(from, '\n', stop - from))) {
