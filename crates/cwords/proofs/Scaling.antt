@@ -18,12 +18,12 @@ use Rattle.rule.specs.Scaled.{noughtOf, scaledOf}
 use Rattle.rule.proofs.Signed.{nought-twice, nought-small, scaled-value}
 use Rattle.cwords.specs.Scaling.{less}
 
--- whether there is a value, and which
+-- whether there is a value, and which; 0 where there is none
 abbrev isValue : Scaled → Bool
 isValue (Value value) = true
 isValue (Refused refusal) = false
 
-abbrev valueIn : Scaled → ℤ
+abbrev pub valueIn : Scaled → ℤ
 valueIn (Value value) = value
 valueIn (Refused refusal) = pos 0
 

@@ -173,7 +173,7 @@ frame-within w b =
     by-test WithinAnswer (ltb longest (length w)) (refusingFrame Unknown FrameLong) _ (λ t. omega arith)
     (λ t. by-test WithinAnswer (ltb (length w) 16) (refusingFrame Unknown FrameShort) (keyAnswer (kindOf (take 16 w)) (drop 16 w)) (λ s. omega arith) (λ s. key-within (kindOf (take 16 w)) (drop 16 w) (below-drop 16 w b)))
 
-within-occurs : (o : Outcome) → Within o → Occurs (saidOf o)
+pub within-occurs : (o : Outcome) → Within o → Occurs (saidOf o)
 within-occurs (Ok n) h = h
 within-occurs (Cut missing) h = h
 within-occurs (Bad refusal) h = h

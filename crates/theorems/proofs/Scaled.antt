@@ -1,33 +1,31 @@
 -- Unpacking, then scaling, by the contracts of the calls that C has: the mapped coefficients of a pack scale without a refusal, and each one not sent scales to 0. Assumes nothing.
-use Prim.Native.Nat.{ℕ, zero, suc, _-_, _/_, _^_, _≤_, _<_}
-use mathlib.Core.Path.{_≡_, refl, sym, ap, subst, _∙_}
+use Prim.Native.Nat.{ℕ, suc, _-_, _/_, _^_, _≤_, _<_}
+use mathlib.Core.Path.{_≡_, sym, ap, subst, _∙_}
 use mathlib.Core.Bool.{Bool, true, false, cond}
-use mathlib.Core.List.{List, [], _∷_}
+use mathlib.Core.List.{List}
 use native.Mathlib.Omega.{arith}
-use borrow.Author.Tests.{ne-eqb, eqb-true, eqb-false, le-leb, le-ltb, leb-true}
+use borrow.Author.Tests.{eqb-true, eqb-false, le-leb, leb-true}
 use contract.Lifetimes.{Lfts}
 use borrow.Fn.Kinds.{Dens, resT, endedOf}
 use denote.Triple.Clauses.{AtExit}
 use denote.Ref.{now}
 use lib.Dec.{eqb, ltb, leb}
 use lib.IntN.{ℤ, pos}
-use lib.ListN.{length, take, drop, getD, length-map, List·getD-append}
-use lib.Seq.{take-at, drop-at}
+use lib.ListN.{length, take, drop, getD}
+use lib.Seq.{take-at}
 use Rattle.verdict.specs.declared.Reason.the-variants.{Disagree}
 use Rattle.verdict.specs.declared.Verdict.{Verdict}
 use Rattle.verdict.specs.declared.Verdict.the-variants.{Complete, Unfinished, Refused}
 use Rattle.verdict.specs.Says.{Bytes}
-use Rattle.verdict.specs.Lent.{over, leftFor}
+use Rattle.verdict.specs.Lent.{leftFor}
 use Rattle.verdict.specs.Numbers.{packedOf}
-use Rattle.verdict.specs.Writing.{refusing, decided}
+use Rattle.verdict.specs.Writing.{refusing}
 use Rattle.verdict.proofs.Cases.{either}
 use Rattle.word.specs.Many.{allBelow}
 use Rattle.word.proofs.Gathered.{all-below}
-use Rattle.rule.specs.declared.scaled.Scaled.{Scaled}
-use Rattle.rule.specs.declared.scaled.Scaled.the-variants.{Value, Refused as ScaledRefused}
+use Rattle.rule.specs.declared.scaled.Scaled.the-variants.{Value}
 use Rattle.rule.specs.Rules.{Keeps, allowed, mappedRule, coefficientRule}
 use Rattle.rule.specs.Scaled.{scaledOf}
-use Rattle.rule.proofs.Signed.{scaled-value}
 use Rattle.matrix.specs.Meaning.{Matrix, pairs, Lawful, LawfulValues}
 use Rattle.matrix.specs.Spelling.{meaningOf}
 use Rattle.matrix.specs.Machine.{verdictOf}
@@ -35,7 +33,9 @@ use Rattle.matrix.proofs.Complete.{complete-meaning}
 use Rattle.matrix.proofs.Pairs.{pairs-most}
 use Rattle.unpack.specs.Unpacking.{unpackShort}
 use Rattle.cmatrix.specs.Format.{toldBy, verdictBy, UnpackedUnder}
-use Rattle.cwords.specs.Scaling.{less, scaledAll, scaleRows, ScaledInto}
+use Rattle.cwords.specs.Scaling.{ScaledInto}
+use Rattle.cwords.proofs.Scaling.{valueIn}
+use Rattle.cwords.proofs.Answers.{scaled-count, scaled-each, scaled-behind}
 use Rattle.theorems.specs.Scaled.{ScaledAs}
 use Rattle.theorems.proofs.MatrixTrip.{said-complete}
 use Rattle.theorems.proofs.Noughts.{nought-scaled}
@@ -47,17 +47,6 @@ use Rattle.cwords.proofs.matrix_scale.Reads as matrix-scale-reads
 -- a mapped word keeps its rule where it is at most half of the words of its length
 mapped-most : (n word : ℕ) → Keeps (mappedRule n) word → word ≤ 256 ^ n / 2
 mapped-most n word k = let e : leb 0 word ≡ true = le-leb 0 word (omega arith) in let h : word - 0 ≤ 256 ^ n / 2 = rw e at k in omega arith
-
--- the value that scaling gives; 0 where it gives none
-abbrev valueIn : Scaled → ℤ
-valueIn (Value value) = value
-valueIn (ScaledRefused refusal) = pos 0
-
--- an entry of words that are scaled
-less-at : (n : ℕ) (words : List ℕ) (i : ℕ) → i < length words → getD (scaledAll n words) i (pos 0) ≡ less n (getD words i 0)
-less-at n [] i h = absurd (omega arith)
-less-at n (word ∷ words) zero h = refl
-less-at n (word ∷ words) (suc i) h = less-at n words i (omega arith)
 
 -- ---- a lawful matrix whose coefficients are mapped, of 1 to 8 bytes
 
@@ -78,41 +67,18 @@ module _ (m : Matrix) (l : Lawful m) (mapped : m .fields .cf ≡ true) (least : 
   words-scale : allBelow (suc (256 ^ n / 2)) (m .coefficients) ≡ true
   words-scale = all-below (suc (256 ^ n / 2)) (m .coefficients) (λ i h. omega (arith, word-most i (omega (arith, v .coefficient-count))))
 
-  module _ (out : List ℤ) (room : pairs (m .fields .n) ≤ length out) where
-    decides : decided (scaleRows n (m .coefficients) (length out)) (Complete (length (m .coefficients))) ≡ Complete (pairs (m .fields .n))
-    unfolding decided
-    decides =
-        rw (ne-eqb n 0 (λ e. omega arith), le-ltb 8 n most, words-scale, le-ltb (length out) (length (m .coefficients)) (omega (arith, v .coefficient-count)))
-        (ap Complete (v .coefficient-count))
-
-    module _ (answer : Verdict) (out′ : List ℤ) (s : ScaledInto (m .coefficients) n out answer out′) where
-      values-count : length (scaledAll n (m .coefficients)) ≡ pairs (m .fields .n)
-      values-count = length-map (m .coefficients) (less n) ∙ v .coefficient-count
-
-      values-over : out′ ≡ over (scaledAll n (m .coefficients)) out
-      values-over = s .left ∙ ap (λ (w : Verdict). leftFor w (scaledAll n (m .coefficients)) out) decides
-
-      value-at : (i : ℕ) → i < pairs (m .fields .n) → getD out′ i (pos 0) ≡ less n (getD (m .coefficients) i 0)
-      value-at i h =
-          ap (λ (l : List ℤ). getD l i (pos 0)) values-over
-          ∙ List·getD-append (scaledAll n (m .coefficients)) (drop (length (scaledAll n (m .coefficients))) out) (pos 0) i (omega (arith, values-count))
-          ∙ less-at n (m .coefficients) i (omega (arith, v .coefficient-count))
-
-      value-of : (i : ℕ) → i < pairs (m .fields .n) → scaledOf (getD (m .coefficients) i 0) n ≡ Value (getD out′ i (pos 0))
-      value-of i h = scaled-value (getD (m .coefficients) i 0) n least most (word-most i h) ∙ ap Value (sym (value-at i h))
-
-      pub matrix-scaled : (number : ℕ) → number ≡ packedOf answer → ScaledAs m out number out′
-      matrix-scaled number e =
-          record {
-            answered = e ∙ ap packedOf (s .said ∙ decides) ∙ omega (arith, pairs-most (m .fields .n) (l .fields .first .size-most));
-            each = value-of;
-            not-sent = λ i h none.
-                ap valueIn (sym (value-of i h) ∙ ap (λ (w : ℕ). scaledOf w n) (v .not-sent i h none) ∙ nought-scaled (m .fields) mapped least most);
-            behind =
-                ap (drop (pairs (m .fields .n))) values-over
-                ∙ drop-at (scaledAll n (m .coefficients)) (drop (length (scaledAll n (m .coefficients))) out) (pairs (m .fields .n)) values-count
-                ∙ ap (λ (k : ℕ). drop k out) values-count;
-          }
+  pub matrix-scaled : (out : List ℤ) → pairs (m .fields .n) ≤ length out → (answer : Verdict) (out′ : List ℤ) → ScaledInto (m .coefficients) n out answer out′ → (number : ℕ) → number ≡ packedOf answer → ScaledAs m out number out′
+  matrix-scaled out room answer out′ s number e =
+      let count = v .coefficient-count in
+      let enough : length (m .coefficients) ≤ length out = omega arith in
+      let each : (i : ℕ) → i < pairs (m .fields .n) → scaledOf (getD (m .coefficients) i 0) n ≡ Value (getD out′ i (pos 0)) =
+      λ i h. scaled-each (m .coefficients) n least most words-scale out enough answer out′ s i (omega arith) in
+      record {
+        answered = e ∙ ap packedOf (scaled-count (m .coefficients) n least most words-scale out enough answer out′ s) ∙ omega (arith, count, pairs-most (m .fields .n) (l .fields .first .size-most));
+        each = each;
+        not-sent = λ i h none. ap valueIn (sym (each i h) ∙ ap (λ (w : ℕ). scaledOf w n) (v .not-sent i h none) ∙ nought-scaled (m .fields) mapped least most);
+        behind = subst (λ (k : ℕ). drop k out′ ≡ drop k out) count (scaled-behind (m .coefficients) n least most words-scale out enough answer out′ s);
+      }
 
 -- ---- through the calls
 
