@@ -98,9 +98,9 @@ uint64_t matrix_unpack(const uint8_t *bytes, size_t count, size_t format, uint64
 uint64_t matrix_expand(const uint8_t *bytes, size_t count, size_t format, uint64_t *words, size_t words_count,
                        uint8_t *marks, size_t marks_count);
 
-/* Each word of `length` bytes less 2^(8 length - 2), the whole number that a mapped coefficient is of the unit 2^(8 length - 2): the count of words (held at 2^32 - 1), or a refusal,
- * all at place 0: 6 for a length of 0 or above 8, then 11 for a word above 2^(8 length - 1), then 13 for fewer entries than words. For coefficients whose field Cf
- * is 1, with Clen as the length. The word 0 is -1, and the nought of one not sent scales to 0. Entries behind the last word's stay as they were. */
+/* Each word of `length` bytes less 2^(8 length - 2), the whole number that a mapped coefficient is of the unit 2^(8 length - 2): the count of words, held at 2^32 - 1,
+ * or a refusal, all at place 0: 6 for a length of 0 or above 8, then 11 for a word above 2^(8 length - 1), then 13 for fewer entries than words. For coefficients
+ * whose field Cf is 1, with Clen as the length. The word 0 is -1, and the nought of one not sent scales to 0. Entries behind the last word's stay as they were. */
 uint64_t matrix_scale(const uint64_t *words, size_t words_count, size_t length, int64_t *scaled, size_t scaled_count);
 
 /* A matrix pack from seven fields, N deviations, M coefficients and M marks: the count of bytes written, or a refusal. Fewer than seven fields, a Cs, Cf or Sf
