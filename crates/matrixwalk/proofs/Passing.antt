@@ -27,7 +27,8 @@ use Rattle.word.proofs.Digits.{Below, bytes-bits, word-below, word-front}
 use Rattle.matrix.specs.Machine.{State, word, Run, enter, enterWord, inWord, restOf, runBytes, step, least}
 use Rattle.matrix.specs.Reached.{verdictAt, verdictBehind}
 use Rattle.matrixwalk.specs.declared.words.Passed.the-variants.{Unfinished as PassedUnfinished, Refused as PassedRefused}
-use Rattle.matrixwalk.specs.Parts.{maskOf, overAt, wordOf, runOf, LookedAt, Judges, Checks, PassedTo, PassedFrom}
+use Rattle.matrixwalk.specs.Parts.{maskOf, overAt, wordOf, runOf, LookedAt, Judges, Checks, FirstsBelow, PassedTo, PassedFrom}
+use Rattle.matrixwalk.proofs.Blocks.{firsts-first, firsts-behind}
 use Rattle.matrix.proofs.Fronts.{cleared-none, run-empty}
 use Rattle.matrix.proofs.Keeping.{first-sign}
 
@@ -107,7 +108,7 @@ module _ (rule : Rule) (sound : Sound rule) (some : 1 ≤ rule .length) where
       (first-sign rule (rule .length - 1) sound (omega arith)))
 
   -- where there is none, all of the first byte counts
-  pub unsigned : rule .sign ≡ 0 → (b : ℕ) → cleared (signFirst rule) b ≡ b
+  unsigned : rule .sign ≡ 0 → (b : ℕ) → cleared (signFirst rule) b ≡ b
   unsigned plain b = rw (plain, zero-div (256 ^ (rule .length - 1))) (cleared-none 1 b)
 
 -- a word of two bytes or more: its first two
@@ -379,6 +380,22 @@ module _ (rule : Rule) (some : 1 ≤ rule .length) where
       carries-all h =
           either (ltb until at) (λ t. c .1 (ltb-true until at t))
           (λ t. let e : at ≡ until = omega (arith, ltb-false until at t) in c .0 (omega arith) until (rw e checks-none))
+
+-- where the first byte of each is below the limit's, no word of a rule without a sign breaks it
+module _ (rule : Rule) (sound : Sound rule) (some : 1 ≤ rule .length) (plain : rule .sign ≡ 0) (bytes : List ℕ) (below : Below 256 bytes) (place until limit : ℕ) (within : until ≤ length bytes) (under : limit ≤ limitFirst rule) where
+  firsts-from : (left at : ℕ) → until ≤ at + left → Carries bytes place until rule at → FirstsBelow bytes at until (rule .length) limit → Checks bytes place until rule until
+  firsts-from zero at h c f = carries-all rule some bytes until place at c (omega arith)
+  firsts-from (suc left) at h c f =
+      either (ltb at until)
+      (λ t. let inside = ltb-true at until t in
+      let b = getD bytes at 0 in
+      let judged : Judges bytes at until rule until =
+      first-below bytes at until rule (record { sound = sound; some = some; before = inside; within = within }) b (unsigned rule sound some plain b) below (omega (arith, firsts-first bytes until (rule .length) limit at inside f)) in
+      firsts-from left (at + rule .length) (omega arith) (carries-next rule some bytes until place at c (rule .length) refl inside judged) (firsts-behind bytes until (rule .length) limit at f))
+      (λ t. carries-all rule some bytes until place at c (ltb-false at until t))
+
+  pub firsts-settle : place ≤ until → FirstsBelow bytes place until (rule .length) limit → Checks bytes place until rule until
+  firsts-settle h f = firsts-from until place (omega arith) (carries-start bytes place until rule h) f
 
 -- ---- some words, and no others
 

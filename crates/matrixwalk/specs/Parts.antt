@@ -1,9 +1,9 @@
 -- For private functions alone: what each part of the walk promises, that its answer is the run's from where it stands.
-use Prim.Native.Nat.{ℕ, suc, _+_, _-_, _*_, _/_, _^_, _≤_, _<_}
+use Prim.Native.Nat.{ℕ, _+_, _-_, _*_, _/_, _^_, _≤_, _<_}
 use mathlib.Core.Path.{_≡_}
 use mathlib.Core.Bool.{cond}
 use mathlib.Core.List.{List, [], _∷_}
-use lib.ListN.{length}
+use lib.ListN.{length, getD}
 use lib.Dec.{eqb}
 use Rattle.verdict.specs.declared.Reason.the-variants.{ValueRange}
 use Rattle.verdict.specs.declared.Verdict.{Verdict}
@@ -72,15 +72,21 @@ pub record Checks (bytes : List ℕ) (place until : ℕ) (rule : Rule) (broken :
   pub cut : broken ≡ until → (count : ℕ) (runs : List Run) → until < place + count * rule .length → until ≡ length bytes
       → verdictBehind (enter (runOf rule count ∷ runs)) bytes place ≡ Unfinished (place + count * rule .length - until + runBytes runs)
 
--- up to `until` no word of an unsigned rule breaks it whose greatest word's first byte is not below this
-abbrev pub SettledUnder : List ℕ → ℕ → ℕ → ℕ → ℕ → Type 0
-SettledUnder bytes place until n limit = (rule : Rule) → Sound rule → rule .sign ≡ 0 → rule .length ≡ n → limit ≤ rule .greatest / 256 ^ (rule .length - 1) → Checks bytes place until rule until
+-- the first byte of each word of n bytes up to `until` is below a limit
+abbrev pub FirstsBelow : List ℕ → ℕ → ℕ → ℕ → ℕ → Type 0
+FirstsBelow bytes place until n limit = (k : ℕ) → place + k * n < until → getD bytes (place + k * n) 0 < limit
 
--- and none of one whose greatest word has a higher first byte than this
-abbrev pub SettledBelow : List ℕ → ℕ → ℕ → ℕ → ℕ → Type 0
-SettledBelow bytes place until n most = SettledUnder bytes place until n (suc most)
+-- each entry is no less than it was, nor than the byte that stands as far behind a place
+pub record Raised (bytes : List ℕ) (at : ℕ) (most₀ most : List ℕ) : Type 0 where
+  pub same-length : length most ≡ length most₀
+  pub kept : (i : ℕ) → getD most₀ i 0 ≤ getD most i 0
+  pub above : (i : ℕ) → i < length most₀ → getD bytes (at + i) 0 ≤ getD most i 0
 
--- and none of any rule whose greatest word begins higher than this with two bytes, of which so much counts
+-- no byte of the blocks of so many bytes is above the entry for its place in the block
+abbrev pub BlocksUnder : List ℕ → ℕ → ℕ → ℕ → List ℕ → Type 0
+BlocksUnder bytes place blocks size most = (b i : ℕ) → b < blocks → i < size → getD bytes (place + b * size + i) 0 ≤ getD most i 0
+
+-- no word of any rule breaks it up to `until` whose greatest word begins higher than this with two bytes, of which so much counts
 abbrev pub SettledByTwo : List ℕ → ℕ → ℕ → ℕ → ℕ → ℕ → Type 0
 SettledByTwo bytes place until n mask most =
     (rule : Rule) → Sound rule → rule .length ≡ n → mask ≡ maskOf rule * 256 + 255 → most < rule .greatest / 256 ^ (rule .length - 2) → Checks bytes place until rule until

@@ -1,4 +1,4 @@
-// The words of a matrix pack against their rule: a word's first byte mostly settles it, and no byte is looked at that cannot change the answer.
+// The words of a matrix pack against their rule: their first bytes mostly settle them, many at a time, and only words that these leave open are looked at one by one.
 ghost use mathlib.Core.Path.{_≡_};
 ghost use mathlib.Core.Bool.{true};
 ghost use Prim.Native.Nat.{_+_, _-_, _*_, _/_, _%_, _^_, _≤_, _<_};
@@ -7,7 +7,7 @@ ghost use lib.ListN.{length as count, getD};
 ghost use Rattle.rule.specs.Rules.{cleared, ruleOf};
 ghost use Rattle.rule.specs.Sound.{Sound};
 ghost use Rattle.word.specs.Bytes.{wordAt};
-ghost use Rattle.matrixwalk.specs.Parts.{maskOf, LookedAt, Judges, Checkable, Checks, SettledUnder, SettledBelow, SettledByTwo, PassedFrom};
+ghost use Rattle.matrixwalk.specs.Parts.{maskOf, LookedAt, Judges, Checkable, Checks, FirstsBelow, Raised, BlocksUnder, SettledByTwo, PassedFrom};
 use rule::rules::Form;
 use rule::rules::Rule;
 use verdict::Reason;
@@ -77,13 +77,31 @@ fn word_at(bytes: &[u8], at: usize, length: usize) -> u64
     }
 }
 
+// Each length is loads of its own to the compiler.
+fn word_by_length(bytes: &[u8], at: usize, length: usize) -> u64
+    requires { ⌜ (length ≤ 8) × (at + length ≤ count (now bytes)) ⌝ }
+    ensures { λ r. ⌜ r ≡ wordAt (now (bytes .entry)) at length ⌝ }
+{
+    match length {
+        1 => word_at(bytes, at, 1),
+        2 => word_at(bytes, at, 2),
+        3 => word_at(bytes, at, 3),
+        4 => word_at(bytes, at, 4),
+        5 => word_at(bytes, at, 5),
+        6 => word_at(bytes, at, 6),
+        7 => word_at(bytes, at, 7),
+        8 => word_at(bytes, at, 8),
+        _ => word_at(bytes, at, length),
+    }
+}
+
 // A word whose first byte is its limit's: where it is whole, its form's check tells whether it keeps the rule, and its bytes the place of a refusal, or what is cut.
 fn judge_tight(bytes: &[u8], at: usize, until: usize, rule: Rule, form: Form) -> usize
     requires { ⌜ LookedAt (now bytes) at until rule × (cleared (rule .sign / 256 ^ (rule .length - 1)) (getD (now bytes) at 0) ≡ rule .greatest / 256 ^ (rule .length - 1)) × (rule ≡ ruleOf form) × (rule .length ≡ form .length) ⌝ }
     ensures { λ r. ⌜ Judges (now (bytes .entry)) at until rule r ⌝ }
 {
     if form.length <= until - at {
-        if form.admits(word_at(bytes, at, form.length)) {
+        if form.admits(word_by_length(bytes, at, form.length)) {
             return until;
         }
     }
@@ -134,7 +152,7 @@ fn check_each(bytes: &[u8], place: usize, until: usize, rule: Rule, form: Form) 
 // Whether the first byte of each word up to a place is below a limit.
 fn all_below(bytes: &[u8], place: usize, until: usize, length: usize, limit: u8) -> bool
     requires { ⌜ (1 ≤ length) × ((length ≤ 8) × ((place ≤ until) × (until ≤ count (now bytes)))) ⌝ }
-    ensures { λ r. ⌜ (r ≡ true → SettledUnder (now (bytes .entry)) place until length limit) ⌝ }
+    ensures { λ r. ⌜ (r ≡ true → FirstsBelow (now (bytes .entry)) place until length limit) ⌝ }
 {
     let mut at = place;
     while at < until {
@@ -152,32 +170,73 @@ fn greater(a: u8, b: u8) -> u8
     if a < b { b } else { a }
 }
 
-// The greatest first byte of the words up to a place.
-fn greatest_first(bytes: &[u8], place: usize, until: usize, length: usize) -> u8
-    requires { ⌜ (1 ≤ length) × ((length ≤ 8) × ((place ≤ until) × (until ≤ count (now bytes)))) ⌝ }
-    ensures { λ r. ⌜ SettledBelow (now (bytes .entry)) place until length r ⌝ }
+// Raises each entry to the byte that stands as far behind a place.
+fn raise(bytes: &[u8], at: usize, most: &mut [u8])
+    requires { ⌜ at + count (now most) ≤ count (now bytes) ⌝ }
+    ensures { λ _. ⌜ Raised (now (bytes .entry)) at (now (most .entry)) (now (most .exit)) ⌝ }
 {
-    let mut most: u8 = 0;
+    let mut i = 0;
+    while i < most.len() {
+        most[i] = greater(most[i], bytes[at + i]);
+        i += 1;
+    }
+}
+
+// The greatest bytes of blocks of so many bytes, one for each place in a block.
+fn greatest_of(bytes: &[u8], place: usize, blocks: usize, size: usize) -> [u8; 128]
+    requires { ⌜ (size ≤ 128) × (place + blocks * size ≤ count (now bytes)) ⌝ }
+    ensures { λ r. ⌜ BlocksUnder (now (bytes .entry)) place blocks size r ⌝ }
+{
+    let mut most = [0u8; 128];
     let mut at = place;
-    while at < until {
-        most = greater(most, bytes[at]);
-        at += length;
+    let mut i = 0;
+    while i < blocks {
+        raise(bytes, at, &mut most[..size]);
+        at += size;
+        i += 1;
     }
     most
 }
 
-// Each of the usual lengths is a loop of its own to the compiler.
-fn greatest_by_length(bytes: &[u8], place: usize, until: usize, length: usize) -> u8
-    requires { ⌜ (1 ≤ length) × ((length ≤ 8) × ((place ≤ until) × (until ≤ count (now bytes)))) ⌝ }
-    ensures { λ r. ⌜ SettledBelow (now (bytes .entry)) place until length r ⌝ }
+// Whether the first byte of each word is below a limit, of so many blocks of sixteen words, by the greatest of each place.
+fn blocks_below(bytes: &[u8], place: usize, blocks: usize, length: usize, limit: u8) -> bool
+    requires { ⌜ (1 ≤ length) × ((length ≤ 8) × (place + blocks * (16 * length) ≤ count (now bytes))) ⌝ }
+    ensures { λ r. ⌜ (r ≡ true → FirstsBelow (now (bytes .entry)) place (place + blocks * (16 * length)) length limit) ⌝ }
+{
+    let size = 16 * length;
+    let most = greatest_of(bytes, place, blocks, size);
+    all_below(&most, 0, size, length, limit)
+}
+
+// Each length is loops of its own to the compiler, which makes them wide.
+fn blocks_by_length(bytes: &[u8], place: usize, blocks: usize, length: usize, limit: u8) -> bool
+    requires { ⌜ (1 ≤ length) × ((length ≤ 8) × (place + blocks * (16 * length) ≤ count (now bytes))) ⌝ }
+    ensures { λ r. ⌜ (r ≡ true → FirstsBelow (now (bytes .entry)) place (place + blocks * (16 * length)) length limit) ⌝ }
 {
     match length {
-        1 => greatest_first(bytes, place, until, 1),
-        2 => greatest_first(bytes, place, until, 2),
-        4 => greatest_first(bytes, place, until, 4),
-        8 => greatest_first(bytes, place, until, 8),
-        _ => greatest_first(bytes, place, until, length),
+        1 => blocks_below(bytes, place, blocks, 1, limit),
+        2 => blocks_below(bytes, place, blocks, 2, limit),
+        3 => blocks_below(bytes, place, blocks, 3, limit),
+        4 => blocks_below(bytes, place, blocks, 4, limit),
+        5 => blocks_below(bytes, place, blocks, 5, limit),
+        6 => blocks_below(bytes, place, blocks, 6, limit),
+        7 => blocks_below(bytes, place, blocks, 7, limit),
+        8 => blocks_below(bytes, place, blocks, 8, limit),
+        _ => blocks_below(bytes, place, blocks, length, limit),
     }
+}
+
+// Whether the first byte of each word up to a place is below a limit: block by block, and then those that are left.
+fn many_below(bytes: &[u8], place: usize, until: usize, length: usize, limit: u8) -> bool
+    requires { ⌜ (1 ≤ length) × ((length ≤ 8) × ((place ≤ until) × (until ≤ count (now bytes)))) ⌝ }
+    ensures { λ r. ⌜ (r ≡ true → FirstsBelow (now (bytes .entry)) place until length limit) ⌝ }
+{
+    let size = 16 * length;
+    let blocks = (until - place) / size;
+    if !blocks_by_length(bytes, place, blocks, length, limit) {
+        return false;
+    }
+    all_below(bytes, place + blocks * size, until, length, limit)
 }
 
 fn greater_two(a: u16, b: u16) -> u16
@@ -260,7 +319,7 @@ fn settled_unsigned(bytes: &[u8], place: usize, until: usize, rule: Rule) -> boo
     if until - place < FEW {
         return all_below(bytes, place, until, rule.length, limit as u8);
     }
-    (greatest_by_length(bytes, place, until, rule.length) as usize) < limit
+    many_below(bytes, place, until, rule.length, limit as u8)
 }
 
 // Whether their first bytes alone settle that no word up to a place breaks its rule.

@@ -86,18 +86,18 @@ module _ (bytes : List ℕ) (found : Found) (whole : Whole bytes found) where
   pub words-within : found .words + f .n * f .slen + sum (m .marks) * f .clen ≤ length bytes
   words-within = omega (arith, whole .within)
 
-  module _ (pair place mark : ℕ) (h : pair < pairs (f .n)) (p : place ≡ coefficientAt (m) found pair) (e : mark ≡ getD (m .marks) pair 0) where
+  module _ (pair place mark : ℕ) (h : pair < pairs (f .n)) (p : place ≡ coefficientAt (m) found pair) (e : mark ≡ getD (m .marks) pair 0) (size : ℕ) (each : size ≡ f .clen) where
     -- the next place is behind the word that is sent
-    pub coefficient-next : sum (take (pair + 1) (m .marks)) * f .clen ≡ sum (take pair (m .marks)) * f .clen + mark * f .clen
-    coefficient-next = rw (add-one, sum-more (m .marks) pair (omega (arith, mark-count)), ← e) (omega arith)
+    pub coefficient-next : sum (take (pair + 1) (m .marks)) * f .clen ≡ sum (take pair (m .marks)) * f .clen + mark * size
+    coefficient-next = rw (each, add-one, sum-more (m .marks) pair (omega (arith, mark-count)), ← e) (omega arith)
 
     -- its word is within the bytes
-    pub coefficient-within : place + mark * f .clen ≤ length bytes
+    pub coefficient-within : place + mark * size ≤ length bytes
     coefficient-within =
         omega (arith, coefficient-place pair, coefficient-next, mul-le-mul-right (f .clen) (sum-first-most (m .marks) (pair + 1)), words-within)
 
-    pub coefficient-is : (none word : ℕ) → none ≡ nought f → word ≡ cond (eqb mark 0) none (wordAt bytes place (f .clen)) → word ≡ getD (m .coefficients) pair 0
-    coefficient-is none word n w = w ∙ rw (n, e, p) (coefficient-here pair h)
+    pub coefficient-is : (none word : ℕ) → none ≡ nought f → word ≡ cond (eqb mark 0) none (wordAt bytes place size) → word ≡ getD (m .coefficients) pair 0
+    coefficient-is none word n w = w ∙ rw (n, e, p, each) (coefficient-here pair h)
 
   -- ---- the coefficients of a full matrix
 
@@ -118,6 +118,10 @@ module _ (bytes : List ℕ) (found : Found) (whole : Whole bytes found) where
     -- before a coefficient stand all the others, or none has bytes
     pub full-place : (pair : ℕ) → pair ≤ pairs (f .n) → coefficientAt (m) found pair ≡ found .words + f .n * f .slen + pair * f .clen
     full-place pair h = omega (arith, coefficient-place pair, ap (λ (ms : List ℕ). sum (take pair ms) * f .clen) marked, sum-first-full (pairs (f .n)) pair (f .clen) h)
+
+    -- the place behind so many coefficients is within the bytes
+    pub full-reached : (pair : ℕ) → pair ≤ pairs (f .n) → coefficientAt (m) found pair ≤ length bytes
+    full-reached pair h = omega (arith, full-place pair h, coefficients-within, mul-le-mul-right (f .clen) h)
 
     pub full-mark : (pair mark : ℕ) → pair < pairs (f .n) → mark ≡ min 1 (f .clen) → mark ≡ getD (m .marks) pair 0
     full-mark pair mark h e = e ∙ sym (ap (λ (ms : List ℕ). getD ms pair 0) marked ∙ getD-replicate {A = ℕ} (pairs (f .n)) pair (min 1 (f .clen)) 0 h)

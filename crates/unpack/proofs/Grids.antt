@@ -10,20 +10,35 @@ use lib.Dec.{eqb, ltb}
 use lib.ListN.{length, drop, getD, set, length-set, length-append, length-drop, List·getD-append}
 use lib.Seq.{ext-getD, getD-drop, getD-append-add, getD-set-same, getD-set-other}
 use Rattle.verdict.proofs.Cases.{either, or-left}
-use Rattle.matrix.specs.Meaning.{Matrix}
-use Rattle.matrix.specs.Expanded.{square, cellWord, cellMark, expandedWords, expandedMarks}
+use Rattle.matrix.specs.Expanded.{square}
 use Rattle.verdict.specs.Lent.{over}
-use Rattle.unpack.specs.Cells.{Cells, Grid, Room}
-use Rattle.matrix.proofs.Squares.{cell-below, cell-one, length-listed, listed-at}
+use Rattle.unpack.specs.Cells.{Cells}
+use Rattle.matrix.proofs.Squares.{cell-below, cell-one, length-listed, square-at}
 use Rattle.unpack.proofs.Tests.{tells-both, tells-equal}
 
 -- one cell alone
 abbrev pub only : ℕ → ℕ → ℕ → ℕ → Bool
 only a b i j = eqb i a && eqb j b
 
-module _ (n : ℕ) (value : ℕ → ℕ → ℕ) where
-  pub cells-none : (filled : ℕ → ℕ → Bool) (out : List ℕ) → ((i j : ℕ) → i < n → j < n → filled i j ≡ false) → Cells n value filled out out
-  cells-none filled out none = record { same-length = refl; values = λ i j h k e. absurd (false≢true (sym (none i j h k) ∙ e)); others = λ k e. refl }
+abbrev pub every : ℕ → ℕ → Bool
+every i j = true
+
+-- the row and the column of a place in the square
+cell-of : (n p : ℕ) → p < n * n → (p / n < n) × ((p % n < n) × (p ≡ p / n * n + p % n))
+cell-of n p h = (div-lt-iff-lt-mul {k = n} {x = p} {y = n} (some n h) .1 h, (mod-lt p {m = n} (some n h), sym (div-add-mod' p n)))
+  where
+    some : (n : ℕ) → p < n * n → 0 < n
+    some zero h = absurd (omega arith)
+    some (suc n) h = omega arith
+
+over-behind : (values out : List ℕ) (p : ℕ) → length values ≤ p → getD (over values out) p 0 ≡ getD out p 0
+over-behind values out p h =
+    let e : length values + (p - length values) ≡ p = omega arith in
+    ap (λ (q : ℕ). getD (over values out) q 0) (sym e) ∙ getD-append-add values (drop (length values) out) (p - length values) 0 ∙ getD-drop (length values) out (p - length values) 0 ∙ ap (λ (q : ℕ). getD out q 0) e
+
+module _ {n : ℕ} {value : ℕ → ℕ → ℕ} where
+  pub cells-none : {filled : ℕ → ℕ → Bool} {out : List ℕ} → ((i j : ℕ) → filled i j ≡ false) → Cells n value filled out out
+  cells-none none = record { same-length = refl; values = λ i j h k e. absurd (false≢true (sym (none i j) ∙ e)); others = λ k e. refl }
 
   -- a value is put into its cell
   pub cells-only : (a b v : ℕ) (out : List ℕ) → a < n → b < n → n * n ≤ length out → v ≡ value a b → Cells n value (only a b) out (set out (a * n + b) v)
@@ -35,14 +50,16 @@ module _ (n : ℕ) (value : ℕ → ℕ → ℕ) where
         others = λ p x. getD-set-other out (a * n + b) p v 0 (λ here. false≢true (sym (x a b h k here) ∙ tells-both (tells-equal a a) (tells-equal b b) .finds (refl, refl)));
       }
 
-  module _ (f g h : ℕ → ℕ → Bool) (joins : (i j : ℕ) → i < n → j < n → h i j ≡ f i j || g i j) (out₀ out₁ out₂ : List ℕ) (first : Cells n value f out₀ out₁) (then : Cells n value g out₁ out₂) where
-    -- some cells are filled, and then some more
-    pub cells-both : Cells n value h out₀ out₂
-    cells-both =
+  module _ {f g : ℕ → ℕ → Bool} (h : ℕ → ℕ → Bool) (joins : (i j : ℕ) → i < n → j < n → h i j ≡ f i j || g i j) {out₀ out₁ out₂ : List ℕ} where
+    -- some cells are filled, and then some more: what these leave of the first has its value already
+    pub cells-both : {u : ℕ → ℕ → ℕ} → ((i j : ℕ) → i < n → j < n → f i j ≡ true → g i j ≡ false → u i j ≡ value i j)
+        → Cells n u f out₀ out₁ → Cells n value g out₁ out₂ → Cells n value h out₀ out₂
+    cells-both has first then =
         record {
           same-length = then .same-length ∙ first .same-length;
           values = λ i j x y t. either (g i j) (then .values i j x y)
-              (λ s. then .others (i * n + j) (λ a b u w e. let o = cell-one n i j a b y w e in rw (← o .0, ← o .1) s) ∙ first .values i j x y (or-left (f i j) (g i j) (sym (joins i j x y) ∙ t) s));
+              (λ s. let before = or-left (f i j) (g i j) (sym (joins i j x y) ∙ t) s in
+              then .others (i * n + j) (λ a b u w e. let o = cell-one n i j a b y w e in rw (← o .0, ← o .1) s) ∙ first .values i j x y before ∙ has i j x y before s);
           others = λ p x. then .others p (λ i j u w e. not-second (f i j) (g i j) (sym (joins i j u w) ∙ x i j u w e)) ∙ first .others p (λ i j u w e. not-first (f i j) (g i j) (sym (joins i j u w) ∙ x i j u w e));
         }
       where
@@ -54,57 +71,32 @@ module _ (n : ℕ) (value : ℕ → ℕ → ℕ) where
         not-second true t e = absurd (false≢true (sym e))
         not-second false t e = e
 
-  module _ (filled : ℕ → ℕ → Bool) (out₀ out : List ℕ) (all : (i j : ℕ) → i < n → j < n → filled i j ≡ true) (c : Cells n value filled out₀ out) where
-    inside : (p : ℕ) → p < n * n → getD out p 0 ≡ value (p / n) (p % n)
-    inside p h =
-        let row : p / n < n = div-lt-iff-lt-mul {k = n} {x = p} {y = n} (some n h) .1 h in
-        let column = mod-lt p {m = n} (some n h) in
-        let e = div-add-mod' p n in
-        ap (λ (q : ℕ). getD out q 0) (sym e) ∙ c .values (p / n) (p % n) row column (all (p / n) (p % n) row column)
-      where
-        some : (n : ℕ) → p < n * n → 0 < n
-        some zero h = absurd (omega arith)
-        some (suc n) h = omega arith
+    pub cells-more : Cells n value f out₀ out₁ → Cells n value g out₁ out₂ → Cells n value h out₀ out₂
+    cells-more = cells-both (λ _ _ _ _ _ _. refl)
 
-    -- all cells are filled
-    pub cells-all : n * n ≤ length out₀ → out ≡ over (square n value) out₀
-    cells-all room =
-        let values = square n value in
-        let count : length (square n value) ≡ n * n = length-listed (n * n) (λ p. value (p / n) (p % n)) in
-        let behind = drop (length (square n value)) out₀ in
-        ext-getD 0 out (over values out₀) (omega (arith, c .same-length, length-append values behind, length-drop (length values) out₀))
-        (λ p l. either (ltb p (n * n))
-        (λ t. let b = ltb-true p (n * n) t in inside p b ∙ sym (List·getD-append values behind 0 p (omega arith) ∙ listed-at (n * n) (λ q. value (q / n) (q % n)) p b))
-        (λ t. let e : length (square n value) + (p - length (square n value)) ≡ p = omega (arith, ltb-false p (n * n) t) in
-        c .others p (λ i j h k x. absurd (omega (arith, cell-below n i j h k, ltb-false p (n * n) t))) ∙ sym (ap (λ (q : ℕ). getD (over values out₀) q 0) (sym e) ∙ getD-append-add values behind (p - length values) 0 ∙ getD-drop (length values) out₀ (p - length values) 0 ∙ ap (λ (q : ℕ). getD out₀ q 0) e)))
+  module _ {out₀ : List ℕ} (room : n * n ≤ length out₀) where
+    pub room-kept : {filled : ℕ → ℕ → Bool} {out : List ℕ} → Cells n value filled out₀ out → n * n ≤ length out
+    room-kept c = omega (arith, c .same-length)
 
--- ---- words and marks together
-
-module _ (m : Matrix) where
-  abbrev size : ℕ
-  size = m .fields .n
-
-  pub grid-none : (filled : ℕ → ℕ → Bool) (words marks : List ℕ) → ((i j : ℕ) → i < size → j < size → filled i j ≡ false) → Grid m filled words marks words marks
-  grid-none filled words marks none = record { words-filled = cells-none size (cellWord m) filled words none; marks-filled = cells-none size (cellMark m) filled marks none }
-
-  pub grid-only : (a b word mark : ℕ) (words marks : List ℕ) → a < size → b < size → Room m words marks → word ≡ cellWord m a b → mark ≡ cellMark m a b
-      → Grid m (only a b) words marks (set words (a * size + b) word) (set marks (a * size + b) mark)
-  grid-only a b word mark words marks h k room e d =
-      record { words-filled = cells-only size (cellWord m) a b word words h k (room .for-words) e; marks-filled = cells-only size (cellMark m) a b mark marks h k (room .for-marks) d }
-
-  module _ {words₀ marks₀ words₁ marks₁ : List ℕ} where
-    pub grid-both : {f g : ℕ → ℕ → Bool} {words₂ marks₂ : List ℕ} (h : ℕ → ℕ → Bool) → ((i j : ℕ) → i < size → j < size → h i j ≡ f i j || g i j)
-        → Grid m f words₀ marks₀ words₁ marks₁ → Grid m g words₁ marks₁ words₂ marks₂ → Grid m h words₀ marks₀ words₂ marks₂
-    grid-both {f} {g} {words₂} {marks₂} h joins first then =
+    -- values over as many entries as there are cells
+    pub cells-over : (values : List ℕ) → length values ≡ n * n → ((i j : ℕ) → i < n → j < n → getD values (i * n + j) 0 ≡ value i j) → Cells n value every out₀ (over values out₀)
+    cells-over values count is =
+        let behind = drop (length values) out₀ in
         record {
-          words-filled = cells-both size (cellWord m) f g h joins words₀ words₁ words₂ (first .words-filled) (then .words-filled);
-          marks-filled = cells-both size (cellMark m) f g h joins marks₀ marks₁ marks₂ (first .marks-filled) (then .marks-filled);
+          same-length = omega (arith, length-append values behind, length-drop (length values) out₀);
+          values = λ i j h k _. List·getD-append values behind 0 (i * n + j) (omega (arith, cell-below n i j h k)) ∙ is i j h k;
+          others = λ p x. either (ltb p (n * n)) (λ t. let c = cell-of n p (ltb-true p (n * n) t) in absurd (false≢true (sym (x (p / n) (p % n) (c .0) (c .1 .0) (c .1 .1))))) (λ t. over-behind values out₀ p (omega (arith, ltb-false p (n * n) t)));
         }
 
-    pub grid-all : {filled : ℕ → ℕ → Bool} → ((i j : ℕ) → i < size → j < size → filled i j ≡ true) → Room m words₀ marks₀ → Grid m filled words₀ marks₀ words₁ marks₁
-        → (words₁ ≡ over (expandedWords m) words₀) × (marks₁ ≡ over (expandedMarks m) marks₀)
-    grid-all {filled} all room g =
-        (cells-all size (cellWord m) filled words₀ words₁ all (g .words-filled) (room .for-words), cells-all size (cellMark m) filled marks₀ marks₁ all (g .marks-filled) (room .for-marks))
+    -- all cells are filled: there is one such list
+    cells-one : {a b : List ℕ} → Cells n value every out₀ a → Cells n value every out₀ b → a ≡ b
+    cells-one {a} {b} x y =
+        ext-getD 0 a b (x .same-length ∙ sym (y .same-length))
+        (λ p _. either (ltb p (n * n))
+        (λ t. let c = cell-of n p (ltb-true p (n * n) t) in
+        rw (c .1 .1) (x .values (p / n) (p % n) (c .0) (c .1 .0) refl ∙ sym (y .values (p / n) (p % n) (c .0) (c .1 .0) refl)))
+        (λ t. let never : (i j : ℕ) → i < n → j < n → p ≡ i * n + j → true ≡ false = λ i j h k e. absurd (omega (arith, cell-below n i j h k, ltb-false p (n * n) t)) in
+        x .others p never ∙ sym (y .others p never)))
 
-    pub room-kept : {filled : ℕ → ℕ → Bool} → Room m words₀ marks₀ → Grid m filled words₀ marks₀ words₁ marks₁ → Room m words₁ marks₁
-    room-kept room g = record { for-words = omega (arith, room .for-words, g .words-filled .same-length); for-marks = omega (arith, room .for-marks, g .marks-filled .same-length) }
+    pub cells-all : {out : List ℕ} → Cells n value every out₀ out → out ≡ over (square n value) out₀
+    cells-all c = cells-one c (cells-over (square n value) (length-listed (n * n) (λ p. value (p / n) (p % n))) (square-at n value))

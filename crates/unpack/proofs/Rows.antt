@@ -1,27 +1,27 @@
--- The cells that the loops fill, one more each time: the diagonal, the pairs of a row, the rows. Assumes nothing.
+-- The cells that the loops fill, one more each time: the diagonal, the pairs of a row, the rows; and the marks of a full matrix. Assumes nothing.
 use Prim.Native.Nat.{ℕ, zero, suc, _+_, _-_, _*_, _<_, _≤_, min, max}
 use mathlib.Core.Path.{_≡_, refl, _∙_, ap, sym, subst}
-use mathlib.Core.Bool.{Bool, true, false, _&&_, _||_}
+use mathlib.Core.Bool.{Bool, true, false, _&&_, _||_, false≢true}
 use mathlib.Core.List.{List}
 use native.Mathlib.Nat.{mul-le-mul-left}
 use native.Mathlib.Omega.{arith}
 use borrow.Author.Tests.{eqb-true, eqb-false, ltb-true, ltb-false}
 use lib.Dec.{eqb, ltb}
-use lib.ListN.{length, getD, set}
+use lib.ListN.{length, getD, set, replicate, length-replicate, getD-replicate}
 use Rattle.matrixwalk.specs.declared.Found.{Found}
 use Rattle.matrix.specs.Meaning.{Matrix, sum, pairs}
 use Rattle.matrix.specs.Order.{pairAt}
 use Rattle.verdict.proofs.Cases.{either}
 use Rattle.matrix.proofs.Order.{place-below}
-use Rattle.matrix.specs.Expanded.{expandedWords, expandedMarks}
+use Rattle.matrix.specs.Expanded.{pairOf, cellMark, square, expandedMarks}
 use Rattle.verdict.specs.Lent.{over}
-use Rattle.unpack.specs.Cells.{Grid, At, Room, diagonal, ofRow, ofRows}
+use Rattle.unpack.specs.Cells.{Cells, Grid, At, Room, diagonal, ofRow, ofRows}
 use Rattle.unpack.specs.Found.{meaningFound, coefficientAt, Whole}
-use Rattle.unpack.proofs.Filling.{coefficient-place}
+use Rattle.unpack.proofs.Filling.{coefficient-place, full-mark}
 use Rattle.matrix.proofs.Squares.{cell-below}
+use Rattle.matrix.proofs.Expanded.{word-alone, mark-alone, word-upper, mark-upper, word-either, mark-either}
 use Rattle.unpack.proofs.Tests.{Tells, tells-equal, tells-less, tells-both, tells-either, tells-always, tells-never}
-use Rattle.unpack.proofs.Grids.{only, grid-none, grid-only, grid-both, grid-all, room-kept}
-use Rattle.matrix.proofs.Expanded.{word-alone, mark-alone, word-upper, word-lower, mark-upper, mark-lower}
+use Rattle.unpack.proofs.Grids.{only, every, cells-none, cells-only, cells-both, cells-more, cells-over, cells-all, room-kept}
 
 -- ---- the order of pairs
 
@@ -97,66 +97,93 @@ module _ (i j : ℕ) where
       tells-either (eqb i j) (diagonal-tells n) (rows-tell n) (tells-always (i < n) h) (omega arith) (omega arith)
       (λ t. let l = eqb-true i j t in omega arith) (λ t. let l = eqb-false i j t in omega arith)
 
-  no-diagonal : diagonal 0 i j ≡ false
-  no-diagonal = tells-never (diagonal-tells 0) (omega arith)
+-- ---- before each loop
 
-  no-row : (row : ℕ) → ofRow row (row + 1) i j ≡ false
-  no-row row = tells-never (row-tells row (row + 1)) (omega arith)
+module _ {n : ℕ} {value : ℕ → ℕ → ℕ} {out : List ℕ} where
+  pub diagonal-none : Cells n value (diagonal 0) out out
+  diagonal-none = cells-none (λ i j. tells-never (diagonal-tells i j 0) (omega arith))
 
-  no-rows : ofRows 0 i j ≡ false
-  no-rows = tells-never (rows-tell 0) (omega arith)
+  pub row-none : (row : ℕ) → Cells n value (ofRow row (row + 1)) out out
+  row-none row = cells-none (λ i j. tells-never (row-tells i j row (row + 1)) (omega arith))
+
+  pub rows-none : Cells n value (ofRows 0) out out
+  rows-none = cells-none (λ i j. tells-never (rows-tell i j 0) (omega arith))
 
 -- ---- one step of each loop
 
-module _ (m : Matrix) (n : ℕ) (same : n ≡ m .fields .n) where
-  module _ {words₀ marks₀ words marks : List ℕ} (room : Room m words₀ marks₀) where
-    -- a cell is within both lists
-    pub cell-within : {filled : ℕ → ℕ → Bool} → Grid m filled words₀ marks₀ words marks → (i j : ℕ) → i < n → j < n → (i * n + j < length words) × (i * n + j < length marks)
-    cell-within g i j h k =
-        let b : i * n + j < m .fields .n * m .fields .n = rw (← same) (cell-below n i j h k) in
-        let r = room-kept m room g in
-        omega arith
+-- a value at both places of a pair
+abbrev putPair : ℕ → ℕ → ℕ → ℕ → List ℕ → List ℕ
+putPair n row column v out = set (set out (row * n + column) v) (column * n + row) v
+
+module _ {n : ℕ} {value : ℕ → ℕ → ℕ} where
+  module _ {out₀ out : List ℕ} (room : n * n ≤ length out₀) where
+    pub cell-within : {filled : ℕ → ℕ → Bool} → Cells n value filled out₀ out → (i j : ℕ) → i < n → j < n → i * n + j < length out
+    cell-within c i j h k = omega (arith, cell-below n i j h k, c .same-length)
 
     -- the next cell of the diagonal
-    pub grid-diagonal : (i word mark : ℕ) → i < n → word ≡ getD (m .deviations) i 0 → mark ≡ min 1 (m .fields .slen) → Grid m (diagonal i) words₀ marks₀ words marks
-        → Grid m (diagonal (i + 1)) words₀ marks₀ (set words (i * n + i) word) (set marks (i * n + i) mark)
-    grid-diagonal i word mark h e d g =
-        rw same
-        (grid-both m (diagonal (i + 1)) (λ x y _ _. diagonal-more x y i) g
-        (grid-only m i i word mark words marks (omega arith) (omega arith) (room-kept m room g) (e ∙ sym (word-alone m i)) (d ∙ sym (mark-alone m i))))
+    pub cells-diagonal : (i v : ℕ) → i < n → v ≡ value i i → Cells n value (diagonal i) out₀ out → Cells n value (diagonal (i + 1)) out₀ (set out (i * n + i) v)
+    cells-diagonal i v h e c = cells-more (diagonal (i + 1)) (λ x y _ _. diagonal-more x y i) c (cells-only i i v out h h (room-kept room c) e)
 
     -- both cells of the next pair of a row
-    pub grid-pair : (row column word mark : ℕ) → row < column → column < n → word ≡ getD (m .coefficients) (pairAt n row column) 0 → mark ≡ getD (m .marks) (pairAt n row column) 0
-        → Grid m (ofRow row column) words₀ marks₀ words marks
-        → Grid m (ofRow row (column + 1)) words₀ marks₀ (set (set words (row * n + column) word) (column * n + row) word) (set (set marks (row * n + column) mark) (column * n + row) mark)
-    grid-pair row column word mark h k e d g =
-        let place : pairAt n row column ≡ pairAt (m .fields .n) row column = rw same in
-        let upper = grid-only m row column word mark words marks (omega arith) (omega arith) (room-kept m room g)
-        (e ∙ rw place (sym (word-upper m row column h))) (d ∙ rw place (sym (mark-upper m row column h))) in
-        let lower = grid-only m column row word mark (set words (row * m .fields .n + column) word) (set marks (row * m .fields .n + column) mark) (omega arith) (omega arith) (room-kept m (room-kept m room g) upper)
-        (e ∙ rw place (sym (word-lower m row column h))) (d ∙ rw place (sym (mark-lower m row column h))) in
-        rw same (grid-both m (ofRow row (column + 1)) (λ x y _ _. row-more x y row column h) g (grid-both m (places row column) (λ x y _ _. places-are x y row column (omega arith)) upper lower))
+    pub cells-pair : (row column v : ℕ) → row < column → column < n → v ≡ value row column → value row column ≡ value column row → Cells n value (ofRow row column) out₀ out
+        → Cells n value (ofRow row (column + 1)) out₀ (putPair n row column v out)
+    cells-pair row column v h k e same c =
+        let upper = cells-only row column v out (omega arith) k (room-kept room c) e in
+        let lower = cells-only column row v (set out (row * n + column) v) k (omega arith) (room-kept (room-kept room c) upper) (e ∙ same) in
+        cells-more (ofRow row (column + 1)) (λ x y _ _. row-more x y row column h) c (cells-more (places row column) (λ x y _ _. places-are x y row column (omega arith)) upper lower)
 
-  module _ {words₀ marks₀ words₁ marks₁ words₂ marks₂ : List ℕ} where
+  module _ {out₀ out₁ out₂ : List ℕ} where
     -- the next row
-    pub grid-row : (row : ℕ) → Grid m (ofRows row) words₀ marks₀ words₁ marks₁ → Grid m (ofRow row n) words₁ marks₁ words₂ marks₂ → Grid m (ofRows (row + 1)) words₀ marks₀ words₂ marks₂
-    grid-row row g t = grid-both m (ofRows (row + 1)) (λ x y h k. rows-more x y n row (omega arith) (omega arith)) g t
+    pub cells-row : (row : ℕ) → Cells n value (ofRows row) out₀ out₁ → Cells n value (ofRow row n) out₁ out₂ → Cells n value (ofRows (row + 1)) out₀ out₂
+    cells-row row = cells-more (ofRows (row + 1)) (λ x y h k. rows-more x y n row h k)
 
     -- the diagonal and all rows
-    pub grid-whole : Room m words₀ marks₀ → Grid m (diagonal n) words₀ marks₀ words₁ marks₁ → Grid m (ofRows n) words₁ marks₁ words₂ marks₂
-        → (words₂ ≡ over (expandedWords m) words₀) × (marks₂ ≡ over (expandedMarks m) marks₀)
-    grid-whole room g t = grid-all m (λ _ _ _ _. refl) room (grid-both m (λ _ _. true) (λ x y h k. all-cells x y n (omega arith) (omega arith)) g t)
+    pub cells-whole : n * n ≤ length out₀ → Cells n value (diagonal n) out₀ out₁ → Cells n value (ofRows n) out₁ out₂ → out₂ ≡ over (square n value) out₀
+    cells-whole room c d = cells-all room (cells-more every (λ x y h k. all-cells x y n h k) c d)
 
--- before each loop
-module _ (m : Matrix) (words marks : List ℕ) where
-  pub diagonal-none : Grid m (diagonal 0) words marks words marks
-  diagonal-none = grid-none m (diagonal 0) words marks (λ x y _ _. no-diagonal x y)
+-- ---- words and marks together
 
-  pub row-none : (row : ℕ) → Grid m (ofRow row (row + 1)) words marks words marks
-  row-none row = grid-none m (ofRow row (row + 1)) words marks (λ x y _ _. no-row x y row)
+module _ (m : Matrix) where
+  abbrev size : ℕ
+  size = m .fields .n
 
-  pub rows-none : Grid m (ofRows 0) words marks words marks
-  rows-none = grid-none m (ofRows 0) words marks (λ x y _ _. no-rows x y)
+  module _ {words₀ marks₀ words marks : List ℕ} (room : Room m words₀ marks₀) where
+    pub grid-within : {filled : ℕ → ℕ → Bool} → Grid m filled words₀ marks₀ words marks → (i j : ℕ) → i < size → j < size → (i * size + j < length words) × (i * size + j < length marks)
+    grid-within g i j h k = (cell-within (room .for-words) (g .words-filled) i j h k, cell-within (room .for-marks) (g .marks-filled) i j h k)
+
+    pub grid-diagonal : (i word mark : ℕ) → i < size → word ≡ getD (m .deviations) i 0 → mark ≡ min 1 (m .fields .slen) → Grid m (diagonal i) words₀ marks₀ words marks
+        → Grid m (diagonal (i + 1)) words₀ marks₀ (set words (i * size + i) word) (set marks (i * size + i) mark)
+    grid-diagonal i word mark h e d g =
+        record {
+          words-filled = cells-diagonal (room .for-words) i word h (e ∙ sym (word-alone m i)) (g .words-filled);
+          marks-filled = cells-diagonal (room .for-marks) i mark h (d ∙ sym (mark-alone m i)) (g .marks-filled);
+        }
+
+    pub grid-pair : (row column word mark : ℕ) → row < column → column < size → word ≡ getD (m .coefficients) (pairAt size row column) 0 → mark ≡ getD (m .marks) (pairAt size row column) 0
+        → Grid m (ofRow row column) words₀ marks₀ words marks → Grid m (ofRow row (column + 1)) words₀ marks₀ (putPair size row column word words) (putPair size row column mark marks)
+    grid-pair row column word mark h k e d g =
+        record {
+          words-filled = cells-pair (room .for-words) row column word h k (e ∙ sym (word-upper m row column h)) (word-either m row column) (g .words-filled);
+          marks-filled = cells-pair (room .for-marks) row column mark h k (d ∙ sym (mark-upper m row column h)) (mark-either m row column) (g .marks-filled);
+        }
+
+-- ---- the marks of a full matrix
+
+module _ (bytes : List ℕ) (found : Found) (whole : Whole bytes found) (full : found .fields .cs ≡ false) (mark : ℕ) (is : mark ≡ min 1 (found .fields .clen)) where
+  abbrev n : ℕ
+  n = found .fields .n
+
+  full-mark-at : (i j : ℕ) → i < n → j < n → diagonal n i j ≡ false → mark ≡ cellMark (meaningFound bytes found) i j
+  full-mark-at i j h k s =
+      either (eqb i j) (λ t. absurd (false≢true (sym s ∙ diagonal-tells i j n .finds (eqb-true i j t, h))))
+      (λ t. let apart = eqb-false i j t in rw t (full-mark bytes found whole full (pairOf n i j) mark (place-below n (min i j) (max i j) (omega arith) (omega arith)) is))
+
+  -- all are the same, and then the diagonal has its own
+  pub full-marks : (marks₀ : List ℕ) {marks₁ marks₂ : List ℕ} → n * n ≤ length marks₀ → marks₁ ≡ over (replicate (n * n) mark) marks₀ → Cells n (cellMark (meaningFound bytes found)) (diagonal n) marks₁ marks₂
+      → marks₂ ≡ over (expandedMarks (meaningFound bytes found)) marks₀
+  full-marks marks₀ {marks₁} room e c =
+      let same : Cells n (λ _ _. mark) every marks₀ marks₁ = rw e (cells-over room (replicate (n * n) mark) (length-replicate (n * n) mark) (λ i j h k. getD-replicate {A = ℕ} (n * n) (i * n + j) mark 0 (cell-below n i j h k))) in
+      cells-all room (cells-both every (λ _ _ _ _. refl) (λ i j h k _ s. full-mark-at i j h k s) same c)
 
 -- the first coefficient is behind the deviations
 pub first-at : (bytes : List ℕ) (found : Found) → Whole bytes found → At (meaningFound bytes found) found 0 1 (record { place = found .words + found .fields .n * found .fields .slen; pair = 0 })

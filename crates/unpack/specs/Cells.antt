@@ -53,8 +53,15 @@ pub record RowFrom (bytes : List ℕ) (found : Found) (none row : ℕ) (next : N
   pub at : At (meaningFound bytes found) found row (row + 1) next
   pub room : Room (meaningFound bytes found) words marks
 
--- before a row of a full matrix, whose coefficients have so many bytes each
-pub record FullRowFrom (bytes : List ℕ) (found : Found) (each row : ℕ) (next : Next) (words marks : List ℕ) : Type 0 where
-  pub from : RowFrom bytes found (nought (meaningFound bytes found .fields)) row next words marks
+-- before the rows of a full matrix, whose coefficients have so many bytes each
+pub record FullFrom (bytes : List ℕ) (found : Found) (each : ℕ) (words : List ℕ) : Type 0 where
+  pub whole : Whole bytes found
   pub full : found .fields .cs ≡ false
   pub length-is : each ≡ found .fields .clen
+  pub room : found .fields .n * found .fields .n ≤ length words
+
+-- before one of them, whose first coefficient stands at a place
+pub record FullRowFrom (bytes : List ℕ) (found : Found) (each row place : ℕ) (words : List ℕ) : Type 0 where
+  pub from : FullFrom bytes found each words
+  pub within : row < found .fields .n
+  pub at : place ≡ coefficientAt (meaningFound bytes found) found (pairAt (found .fields .n) row (row + 1))

@@ -51,6 +51,35 @@ pub(crate) fn word_or(bytes: &[u8], place: usize, length: usize, mark: u8, none:
     word_at(bytes, place, length)
 }
 
+// Each length is loads of its own to the compiler.
+fn word_by_length(bytes: &[u8], place: usize, length: usize) -> u64
+    requires { ⌜ (length ≤ 8) × (place + length ≤ count (now bytes)) ⌝ }
+    ensures { λ r. ⌜ r ≡ wordAt (now (bytes .entry)) place length ⌝ }
+{
+    match length {
+        1 => word_at(bytes, place, 1),
+        2 => word_at(bytes, place, 2),
+        3 => word_at(bytes, place, 3),
+        4 => word_at(bytes, place, 4),
+        5 => word_at(bytes, place, 5),
+        6 => word_at(bytes, place, 6),
+        7 => word_at(bytes, place, 7),
+        8 => word_at(bytes, place, 8),
+        _ => word_at(bytes, place, length),
+    }
+}
+
+// The same where the length is not written out at the call.
+pub(crate) fn any_word_or(bytes: &[u8], place: usize, length: usize, mark: u8, none: u64) -> u64
+    requires { ⌜ (length ≤ 8) × (place + mark * length ≤ count (now bytes)) ⌝ }
+    ensures { λ r. ⌜ r ≡ cond (eqb mark 0) none (wordAt (now (bytes .entry)) place length) ⌝ }
+{
+    if mark != 0 {
+        return word_by_length(bytes, place, length);
+    }
+    none
+}
+
 // The nought of the fields' coefficients.
 pub(crate) fn nought_of(f: Fields) -> u64
     requires { ⌜ f .clen ≤ 8 ⌝ }
@@ -86,7 +115,7 @@ fn fill_words(bytes: &[u8], place: usize, length: usize, number: usize, out: &mu
 }
 
 // The same mark over the first entries of a list.
-fn fill_marks(marks: &mut [u8], number: usize, mark: u8)
+pub(crate) fn fill_marks(marks: &mut [u8], number: usize, mark: u8)
     requires { ⌜ number ≤ count (now marks) ⌝ }
     ensures { λ _. ⌜ now (marks .exit) ≡ over (replicate number mark) (now (marks .entry)) ⌝ }
 {
@@ -114,15 +143,14 @@ fn fill_all(bytes: &[u8], found: Found, coefficients: &mut [u64], marks: &mut [u
     fill_marks(marks, number, mark_of(f.clen));
 }
 
-// The coefficients of a sparse matrix, by their bits.
-fn fill_sent(bytes: &[u8], found: Found, coefficients: &mut [u64], marks: &mut [u8])
-    requires { ⌜ Whole (now bytes) found × ((pairs (found .fields .n) ≤ count (now coefficients)) × (pairs (found .fields .n) ≤ count (now marks))) ⌝ }
+// The coefficients of a sparse matrix, by their bits, which have so many bytes each.
+fn fill_sent(bytes: &[u8], found: Found, length: usize, coefficients: &mut [u64], marks: &mut [u8])
+    requires { ⌜ Whole (now bytes) found × ((length ≡ found .fields .clen) × ((pairs (found .fields .n) ≤ count (now coefficients)) × (pairs (found .fields .n) ≤ count (now marks)))) ⌝ }
     ensures { λ _. ⌜ (now (coefficients .exit) ≡ over (meaningFound (now (bytes .entry)) found .coefficients) (now (coefficients .entry))) × (now (marks .exit) ≡ over (meaningFound (now (bytes .entry)) found .marks) (now (marks .entry))) ⌝ }
 {
     let f = found.fields;
     let count = pairs_of(f.n);
     let none = nought_of(f);
-    let length = f.clen;
     let start = header_bytes(f);
     let mut place = found.words + f.n * f.slen;
     let mut pair = 0;
@@ -132,6 +160,30 @@ fn fill_sent(bytes: &[u8], found: Found, coefficients: &mut [u64], marks: &mut [
         coefficients[pair] = word_or(bytes, place, length, mark, none);
         place += mark as usize * length;
         pair += 1;
+    }
+}
+
+// Each length is a loop of its own to the compiler.
+fn sent_by_length(
+    bytes: &[u8],
+    found: Found,
+    length: usize,
+    coefficients: &mut [u64],
+    marks: &mut [u8],
+)
+    requires { ⌜ Whole (now bytes) found × ((length ≡ found .fields .clen) × ((pairs (found .fields .n) ≤ count (now coefficients)) × (pairs (found .fields .n) ≤ count (now marks)))) ⌝ }
+    ensures { λ _. ⌜ (now (coefficients .exit) ≡ over (meaningFound (now (bytes .entry)) found .coefficients) (now (coefficients .entry))) × (now (marks .exit) ≡ over (meaningFound (now (bytes .entry)) found .marks) (now (marks .entry))) ⌝ }
+{
+    match length {
+        1 => fill_sent(bytes, found, 1, coefficients, marks),
+        2 => fill_sent(bytes, found, 2, coefficients, marks),
+        3 => fill_sent(bytes, found, 3, coefficients, marks),
+        4 => fill_sent(bytes, found, 4, coefficients, marks),
+        5 => fill_sent(bytes, found, 5, coefficients, marks),
+        6 => fill_sent(bytes, found, 6, coefficients, marks),
+        7 => fill_sent(bytes, found, 7, coefficients, marks),
+        8 => fill_sent(bytes, found, 8, coefficients, marks),
+        _ => fill_sent(bytes, found, length, coefficients, marks),
     }
 }
 
@@ -159,7 +211,7 @@ pub(crate) fn unpack_found(
     }
     fill_words(bytes, found.words, found.fields.slen, n, deviations);
     if found.fields.cs {
-        fill_sent(bytes, found, coefficients, marks);
+        sent_by_length(bytes, found, found.fields.clen, coefficients, marks);
         return Verdict::Complete(found.length);
     }
     fill_all(bytes, found, coefficients, marks);

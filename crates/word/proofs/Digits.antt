@@ -9,7 +9,7 @@ use borrow.Author.Tests.{ltb-true, ltb-false, ne-eqb}
 use lib.Dec.{eqb, ltb}
 use lib.Pow.{pow-add, pow-lt, shl-shr}
 use lib.ListN.{length, take, drop, getD, replicate, length-append, length-take, length-drop}
-use lib.Seq.{take-suc, drop-cons, length-take-le}
+use lib.Seq.{take-suc, take-add, drop-cons, drop-drop, getD-drop, length-take-le}
 use native.Mathlib.Numerals.{add-one}
 use Rattle.word.specs.Digits.{digits, valueOn, valueOf}
 use Rattle.word.specs.Bytes.{wordAt}
@@ -137,9 +137,50 @@ bytes-bits (suc n) =
     let e : 8 * suc n ≡ 8 * n + 8 = omega arith in
     pow-suc 256 n ∙ rw (bytes-bits n, e) (sym (pow-add 2 (8 * n) 8))
 
--- a word of at most eight bytes, as it is read, fits in 64 bits
-pub word-fits : (ds : List ℕ) (i : ℕ) → Below 256 ds → i < length ds → i < 8 → valueOf 256 (take i ds) * 256 + getD ds i 0 < 2 ^ 64
-word-fits ds i f h k = omega (arith, value-more 256 ds i h, value-take-below 256 (suc i) ds f, pow-le-pow-right {n = 256} (omega arith) {i = suc i} {j = 8} k)
+-- a word is its first bytes, and the others behind them
+pub word-parts : (s : List ℕ) (place a b : ℕ) → a + b ≤ length s - place → wordAt s place (a + b) ≡ wordAt s place a * 256 ^ b + wordAt s (place + a) b
+word-parts s place a b h =
+    let l : length (take b (drop (place + a) s)) ≡ b = length-take-le b (drop (place + a) s) (rw length-drop (omega arith)) in
+    rw (take-add a b (drop place s), drop-drop, valueOn-append, valueOn-split 256 (wordAt s place a) (take b (drop (place + a) s)), l)
+
+-- one byte more, at its weight in a word of n bytes
+weight-more : (s : List ℕ) (place n i : ℕ) → i < n → n ≤ length s - place → wordAt s place i * 256 ^ (n - i) + getD s (place + i) 0 * 256 ^ (n - 1 - i) ≡ wordAt s place (i + 1) * 256 ^ (n - (i + 1))
+weight-more s place n i h k =
+    let e : n - i ≡ suc (n - 1 - i) = omega arith in
+    let d : n - (i + 1) ≡ n - 1 - i = omega arith in
+    let inside : i < length (drop place s) = rw length-drop (omega arith) in
+    rw (e, d, add-one, value-more 256 (drop place s) i inside, getD-drop, pow-suc) (omega arith)
+
+-- a word of at most eight bytes fits in 64 bits
+pub word-fits : (s : List ℕ) (place n : ℕ) → Below 256 s → n ≤ 8 → wordAt s place n < 2 ^ 64
+word-fits s place n f k = lt-of-lt-of-le (word-below s place n f) (pow-le-pow-right {n = 256} (omega arith) {i = n} {j = 8} k)
+
+-- and its first bytes at their weight
+pub weight-fits : (s : List ℕ) (place n i : ℕ) → Below 256 s → i ≤ n → n ≤ 8 → wordAt s place i * 256 ^ (n - i) < 2 ^ 64
+weight-fits s place n i f h k =
+    let e : i + (n - i) ≡ n = omega arith in
+    lt-of-lt-of-le (mul-lt-mul-of-pos-right (word-below s place i f) (one-le-pow (n - i) 256 (omega arith)))
+    (rw (← pow-add, e) (pow-le-pow-right {n = 256} (omega arith) {i = n} {j = 8} k))
+
+-- and a shift by whole bytes is their weight
+shifted-weight : (v n : ℕ) → v * 256 ^ n < 2 ^ 64 → v * 2 ^ (8 * n) % 2 ^ 64 ≡ v * 256 ^ n
+shifted-weight v n h = rw (← bytes-bits n) (mod-eq-of-lt h)
+
+module _ (s : List ℕ) (place : ℕ) (f : Below 256 s) where
+  -- so a byte is shifted behind those before it
+  pub shifted-byte : (n i : ℕ) → i < n → n ≤ length s - place → n ≤ 8 → (value : ℕ) → value ≡ wordAt s place i * 256 ^ (n - i)
+      → value + getD s (place + i) 0 * 2 ^ (8 * (n - 1 - i)) % 2 ^ 64 ≡ wordAt s place (i + 1) * 256 ^ (n - (i + 1))
+  shifted-byte n i h k l value e =
+      let more = weight-more s place n i h k in
+      let fits = weight-fits s place n (i + 1) f (omega arith) l in
+      rw (e, shifted-weight (getD s (place + i) 0) (n - 1 - i) (omega arith)) more
+
+  -- and a part of a word before the rest of it
+  pub shifted-part : (a b n x y : ℕ) → a + b ≡ n → n ≤ length s - place → n ≤ 8 → x ≡ wordAt s place a → y ≡ wordAt s (place + a) b → x * 2 ^ (8 * b) % 2 ^ 64 + y ≡ wordAt s place n
+  shifted-part a b n x y e h l p q =
+      let parts : wordAt s place n ≡ wordAt s place a * 256 ^ b + wordAt s (place + a) b = rw (← e) (word-parts s place a b (omega arith)) in
+      let fits = word-fits s place n f l in
+      rw (p, q, shifted-weight (wordAt s place a) b (omega arith)) (sym parts)
 
 -- a shift leaves nothing of exactly the words that fit
 pub shifted-out : (word p : ℕ) → 0 < p → eqb (word / p) 0 ≡ ltb word p

@@ -1,12 +1,12 @@
--- Laws of the loops that fill bytes: eight from the front with zeros behind, and a word's from its last byte on. Assumes nothing.
+-- Laws of the loop that fills a word's bytes, from its last on. Assumes nothing.
 use Prim.Native.Nat.{ℕ, suc, _+_, _-_, _/_, _%_, _^_, _≤_, _<_}
 use mathlib.Core.Path.{_≡_, _∙_, sym, ap}
-use mathlib.Core.List.{List, [], _∷_, _++_}
+use mathlib.Core.List.{List, [], _∷_}
 use native.Mathlib.Omega.{arith}
 use borrow.Author.Tests.{lt-ltb, le-ltb, lt-leb, le-leb}
 use native.Mathlib.Nat.{le-of-eq, add-suc, add-zero}
-use lib.ListN.{length, take, drop, getD, set, replicate, length-append, length-take, length-drop, drop-of-length-le}
-use lib.Seq.{take-all, take-suc, take-take, take-at, drop-cons, getD-drop, getD-take, getD-at, set-at, append-snoc, length-take-le}
+use lib.ListN.{length, take, drop, getD, set, length-append, length-take, length-drop, drop-of-length-le}
+use lib.Seq.{take-all, take-take, take-at, drop-cons, getD-take, getD-at}
 use Rattle.verdict.specs.declared.Reason.the-variants.{ValueLength, ValueRange, SmallBuffer}
 use Rattle.verdict.specs.declared.Verdict.{Verdict}
 use Rattle.verdict.specs.declared.Verdict.the-variants.{Complete}
@@ -14,23 +14,9 @@ use Rattle.verdict.specs.Writing.{put, refusing, decided}
 use Rattle.verdict.proofs.Deciding.{decided-kept}
 use Rattle.verdict.proofs.Judging.{Kept}
 use Rattle.verdict.proofs.Putting.{put-none, put-before}
-use Rattle.word.specs.Digits.{digits, valueOf}
-use Rattle.word.specs.Bytes.{wordAt, wordRows, Written}
+use Rattle.word.specs.Digits.{digits}
+use Rattle.word.specs.Bytes.{wordRows, Written}
 use Rattle.word.proofs.Digits.{length-digits}
-
--- one byte more in the first of eight
-pub eight-more : (s : List ℕ) (place i : ℕ) → i < 8 → i < length s - place
-    → set (take i (drop place s) ++ replicate (8 - i) 0) i (getD s (place + i) 0) ≡ take (suc i) (drop place s) ++ replicate (8 - suc i) 0
-eight-more s place i h k =
-    let inside : i < length (drop place s) = rw length-drop k in
-    let e : 8 - i ≡ suc (8 - suc i) = omega arith in
-    rw e
-    (set-at (take i (drop place s)) 0 (replicate (8 - suc i) 0) (getD s (place + i) 0) i (length-take-le i (drop place s) (omega arith))
-    ∙ sym (rw (take-suc (drop place s) i 0 inside, getD-drop) (append-snoc (take i (drop place s)) (getD s (place + i) 0) (replicate (8 - suc i) 0))))
-
--- the first n of eight have the word's value
-pub eight-word : (s : List ℕ) (place n : ℕ) → n ≤ length s - place → valueOf 256 (take n (take n (drop place s) ++ replicate (8 - n) 0)) ≡ wordAt s place n
-eight-word s place n h = ap (valueOf 256) (take-at (take n (drop place s)) (replicate (8 - n) 0) n (length-take-le n (drop place s) (rw length-drop h)))
 
 -- a word of n bytes is stored but for its first `left`, which are those of `rest`
 pub record Stored (out₀ : List ℕ) (place n word left rest : ℕ) (out : List ℕ) : Type 0 where

@@ -47,14 +47,19 @@ fn read_each(bytes: &[u8], length: usize, out: &mut [u64])
     }
 }
 
-// Each of the usual lengths is a loop of its own to the compiler.
+// Each length is a loop of its own to the compiler.
 fn read_by_length(bytes: &[u8], length: usize, out: &mut [u64])
     requires { ⌜ (length ≤ 8) × (count (now bytes) ≡ count (now out) * length) ⌝ }
     ensures { λ _. ⌜ now (out .exit) ≡ wordsIn length (count (now (out .entry))) (now (bytes .entry)) ⌝ }
 {
     match length {
+        1 => read_each(bytes, 1, out),
         2 => read_each(bytes, 2, out),
+        3 => read_each(bytes, 3, out),
         4 => read_each(bytes, 4, out),
+        5 => read_each(bytes, 5, out),
+        6 => read_each(bytes, 6, out),
+        7 => read_each(bytes, 7, out),
         8 => read_each(bytes, 8, out),
         _ => read_each(bytes, length, out),
     }

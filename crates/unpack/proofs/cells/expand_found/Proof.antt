@@ -1,22 +1,22 @@
 -- `unpack::cells::expand_found` meets its contract: the lists are filled where there is room in both. Assumes nothing.
-use mathlib.Core.Path.{refl}
+use Prim.Native.Nat.{ℕ}
+use mathlib.Core.Path.{_≡_}
+use mathlib.Core.List.{List}
 use native.Mathlib.Nat.{mul-le-mul}
 use native.Mathlib.Omega.{arith}
 use borrow.Author.Tests.{lt-ltb, le-ltb}
 use denote.Ref.{now}
+use Rattle.verdict.specs.declared.Verdict.the-variants.{Complete}
+use Rattle.verdict.specs.Lent.{over}
+use Rattle.matrix.specs.Meaning.{Matrix}
+use Rattle.matrix.specs.Expanded.{expandedWords, expandedMarks}
+use Rattle.unpack.specs.Unpacking.{ExpandedFor}
 use Rattle.unpack.specs.Found.{meaningFound}
-use Rattle.unpack.specs.Cells.{Room}
 use Rattle.unpack.proofs.Filling.{small}
-use Rattle.unpack.proofs.Grids.{room-kept}
-use Rattle.unpack.proofs.Rows.{grid-whole}
 use Rattle.unpack.proofs.Answers.{expanded-short, expanded-whole}
 use borrow.Author.Needs.{needs}
 use Rattle.unpack.proofs.cells.expand_found.Statement.{statement}
 use Rattle.unpack.proofs.cells.expand_found.Tie as tie
-
--- there is room for all cells
-room : (c : tie.Else2) → let s = c .before .before .before .before .before in Room (meaningFound (now (s .args .bytes)) (s .args .found)) (now (s .args .words)) (now (s .args .marks))
-room c = record { for-words = c .before .if1 .left; for-marks = c .if2 .left }
 
 mul-cells : tie.Need-mul-cells
 mul-cells c = let s = c .before .before .before in
@@ -41,15 +41,23 @@ returns-2 c =
     expanded-short (now (s .args .bytes)) (s .args .found) (now (s .args .words)) (now (s .args .marks)) (c .refuse2 .result) (c .refuse2 .ensures)
     (simp (le-ltb _ _ (c .before .before .if1 .left), lt-ltb _ _ (c .before .if2 .taken)))
 
-fill-diagonal-requires : tie.Need-fill-diagonal-requires
-fill-diagonal-requires c κs = let o = c .before .before in (o .before .before .before .before .before .pre, room o)
+expand-sparse-requires : tie.Need-expand-sparse-requires
+expand-sparse-requires c κs = search needs
 
-fill-pairs-requires : tie.Need-fill-pairs-requires
-fill-pairs-requires c κs =
-    let d = c .before .before .before .before .before .before in
-    let o = d .before .before .before in
-    let s = o .before .before .before .before .before in
-    (s .pre, room-kept (meaningFound (now (s .args .bytes)) (s .args .found)) (room o) (d .fill-diagonal .ensures))
+expand-full-requires : tie.Need-expand-full-requires
+expand-full-requires c κs = search needs
+
+-- both lists are filled
+module _ (o : tie.Else2) where
+  abbrev s : tie.Start
+  s = o .before .before .before .before .before
+
+  abbrev m : Matrix
+  m = meaningFound (now (s .args .bytes)) (s .args .found)
+
+  filled : (words′ marks′ : List ℕ) → (words′ ≡ over (expandedWords m) (now (s .args .words))) × (marks′ ≡ over (expandedMarks m) (now (s .args .marks)))
+      → ExpandedFor (Complete (s .args .found .length)) m (now (s .args .words)) (now (s .args .marks)) (Complete (s .args .found .length)) words′ marks′
+  filled words′ marks′ = expanded-whole (now (s .args .bytes)) (s .args .found) (now (s .args .words)) (now (s .args .marks)) words′ marks′ (simp (le-ltb _ _ (o .before .if1 .left), le-ltb _ _ (o .if2 .left)))
 
 same-length : tie.Need-same-length
 same-length c = search needs
@@ -58,15 +66,16 @@ same-length-2 : tie.Need-same-length-2
 same-length-2 c = search needs
 
 returns-3 : tie.Need-returns-3
-returns-3 c =
-    let p = c .before .before .before .before in
-    let d = p .before .before .before .before .before .before .before in
-    let o = d .before .before .before in
-    let s = o .before .before .before .before .before in
-    let m = meaningFound (now (s .args .bytes)) (s .args .found) in
-    expanded-whole (now (s .args .bytes)) (s .args .found) (now (s .args .words)) (now (s .args .marks)) (p .fill-pairs .last .1 .1 .0) (p .fill-pairs .last .1 .1 .1 .0)
-    (simp (le-ltb _ _ (o .before .if1 .left), le-ltb _ _ (o .if2 .left)))
-    (grid-whole m (s .args .found .fields .n) refl (room o) (d .fill-diagonal .ensures) (p .fill-pairs .ensures))
+returns-3 c = let p = c .before .before .before .before in filled (p .before .before .before .before) (p .expand-sparse .last .1 .1 .0) (p .expand-sparse .last .1 .1 .1 .0) (p .expand-sparse .ensures)
+
+same-length-3 : tie.Need-same-length-3
+same-length-3 c = search needs
+
+same-length-4 : tie.Need-same-length-4
+same-length-4 c = search needs
+
+returns-4 : tie.Need-returns-4
+returns-4 c = let p = c .before .before .before .before in filled (p .before .before .before .before) (p .expand-full .last .1 .1 .0) (p .expand-full .last .1 .1 .1 .0) (p .expand-full .ensures)
 
 pub expand-found-spec : {M : Type 1} → statement M
 expand-found-spec =
@@ -77,8 +86,11 @@ expand-found-spec =
     returns
     refuse-requires-2
     returns-2
-    fill-diagonal-requires
-    fill-pairs-requires
+    expand-sparse-requires
+    expand-full-requires
     same-length
     same-length-2
-    returns-3)
+    returns-3
+    same-length-3
+    same-length-4
+    returns-4)

@@ -14,7 +14,7 @@ use Rattle.unpack.specs.Found.{meaningFound, coefficientAt}
 use Rattle.unpack.specs.Cells.{Grid, ofRow}
 use Rattle.unpack.proofs.Filling.{Small, small, vector-within, coefficient-place, coefficient-next, coefficient-within, coefficient-is}
 use Rattle.matrix.proofs.Squares.{cell-small}
-use Rattle.unpack.proofs.Rows.{next-pair, next-row, cell-within, row-none, grid-pair}
+use Rattle.unpack.proofs.Rows.{next-pair, next-row, grid-within, row-none, grid-pair}
 use borrow.Author.Needs.{needs}
 use Rattle.unpack.proofs.cells.fill_sparse_row.Statement.{statement}
 use Rattle.unpack.proofs.cells.fill_sparse_row.Tie as tie
@@ -88,16 +88,16 @@ module _ (c : tie.In-loop Inv-loop μ-loop) where
   lower-few = cell-small (n (start here)) (column here) (row here) (bounds (start here) .size-most) (c .loop-test .taken) (row-below (start here))
 
   upper-there : (row here * n (start here) + column here < size (here .loop .words)) × (row here * n (start here) + column here < size (here .loop .marks))
-  upper-there = cell-within (m here) (n (start here)) refl (start here .pre .room) (here .loop .inv .filled) (row here) (column here) (row-below (start here)) (c .loop-test .taken)
+  upper-there = grid-within (m here) (start here .pre .room) (here .loop .inv .filled) (row here) (column here) (row-below (start here)) (c .loop-test .taken)
 
   lower-there : (column here * n (start here) + row here < size (here .loop .words)) × (column here * n (start here) + row here < size (here .loop .marks))
-  lower-there = cell-within (m here) (n (start here)) refl (start here .pre .room) (here .loop .inv .filled) (column here) (row here) (c .loop-test .taken) (row-below (start here))
+  lower-there = grid-within (m here) (start here .pre .room) (here .loop .inv .filled) (column here) (row here) (c .loop-test .taken) (row-below (start here))
 
 -- the word that is sent is there
 within : (c : tie.After-mark-at Inv-loop μ-loop) → let g = start (c .before .before) in c .before .before .loop .place + c .mark-at .result * found g .fields .clen ≤ size (bytes g)
 within c = let l = c .before .before in
     let g = start l in
-    coefficient-within (bytes g) (found g) (g .pre .whole) (l .loop .pair) (l .loop .place) (c .mark-at .result) (pair-below (c .before)) (place-is l) (c .mark-at .ensures)
+    coefficient-within (bytes g) (found g) (g .pre .whole) (l .loop .pair) (l .loop .place) (c .mark-at .result) (pair-below (c .before)) (place-is l) (c .mark-at .ensures) (found g .fields .clen) refl
 
 header-bytes-requires : tie.Need-header-bytes-requires Inv-loop μ-loop
 header-bytes-requires c κs = search needs
@@ -113,14 +113,14 @@ loop-holds c =
       most = omega (arith, row-below g);
       pair-is = g .pre .at .pair;
       moved = refl;
-      filled = row-none (meaningFound (bytes g) (found g)) (now (g .args .words)) (now (g .args .marks)) (g .args .row);
+      filled = record { words-filled = row-none (g .args .row); marks-filled = row-none (g .args .row) };
     }
 
 mark-at-requires : tie.Need-mark-at-requires Inv-loop μ-loop
 mark-at-requires c κs = let g = start (c .before) in (c .before .before .header-bytes .ensures, (pair-below c, vector-within (bytes g) (found g) (g .pre .whole)))
 
-word-or-requires : tie.Need-word-or-requires Inv-loop μ-loop
-word-or-requires c κs = (bounds (start (c .before .before)) .clen-few, within c)
+any-word-or-requires : tie.Need-any-word-or-requires Inv-loop μ-loop
+any-word-or-requires c κs = (bounds (start (c .before .before)) .clen-few, within c)
 
 mul-put-pair : tie.Need-mul-put-pair Inv-loop μ-loop
 mul-put-pair c = omega (arith, upper-few (c .before .before .before .before))
@@ -164,15 +164,15 @@ loop-again c =
     let below = pair-below (w .before .before) in
     let mark = w .before .mark-at in
     let put = c .before .before .before .before .put-pair .ensures in
-    let next = coefficient-next (bytes g) (found g) (g .pre .whole) (l .loop .pair) (l .loop .place) (mark .result) below (place-is l) (mark .ensures) in
-    let word = coefficient-is (bytes g) (found g) (g .pre .whole) (l .loop .pair) (l .loop .place) (mark .result) below (place-is l) (mark .ensures) (g .args .none) (w .word-or .result) (g .pre .nought-is) (w .word-or .ensures) in
+    let next = coefficient-next (bytes g) (found g) (g .pre .whole) (l .loop .pair) (l .loop .place) (mark .result) below (place-is l) (mark .ensures) (found g .fields .clen) refl in
+    let word = coefficient-is (bytes g) (found g) (g .pre .whole) (l .loop .pair) (l .loop .place) (mark .result) below (place-is l) (mark .ensures) (found g .fields .clen) refl (g .args .none) (w .any-word-or .result) (g .pre .nought-is) (w .any-word-or .ensures) in
     record {
       begun = omega (arith, inv .begun);
       most = omega (arith, w .before .before .loop-test .taken);
       pair-is = omega (arith, inv .pair-is, next-pair (n g) (row l) (column l) (inv .begun));
       moved = omega (arith, inv .moved, next);
       filled = rw (put .0, put .1)
-          (grid-pair (m l) (n g) refl (g .pre .room) (row l) (column l) (w .word-or .result) (mark .result) (inv .begun) (w .before .before .loop-test .taken)
+          (grid-pair (m l) (g .pre .room) (row l) (column l) (w .any-word-or .result) (mark .result) (inv .begun) (w .before .before .loop-test .taken)
           (word ∙ ap (λ (k : ℕ). getD (m l .coefficients) k 0) (inv .pair-is)) (mark .ensures ∙ ap (λ (k : ℕ). getD (m l .marks) k 0) (inv .pair-is)) (inv .filled));
     }
 
@@ -202,7 +202,7 @@ fill-sparse-row-spec =
     add-column
     loop-holds
     mark-at-requires
-    word-or-requires
+    any-word-or-requires
     mul-put-pair
     add-put-pair
     mul-put-pair-2

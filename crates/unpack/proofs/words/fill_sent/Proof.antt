@@ -17,11 +17,11 @@ use Rattle.unpack.proofs.words.fill_sent.Statement.{statement}
 use Rattle.unpack.proofs.words.fill_sent.Tie as tie
 
 abbrev Inv-loop : tie.InvT-loop
-Inv-loop bytes coefficients₀ marks₀ f count none length start place₀ pair₀ coefficients marks place pair =
-    (pair ≤ count) × ((place ≡ place₀ + sum (take pair (meaningIn f bytes .marks)) * length) × ((coefficients ≡ overFirst pair (meaningIn f bytes .coefficients) coefficients₀) × (marks ≡ overFirst pair (meaningIn f bytes .marks) marks₀)))
+Inv-loop bytes length coefficients₀ marks₀ f count none start place₀ pair₀ coefficients marks place pair =
+    (pair ≤ count) × ((place ≡ place₀ + sum (take pair (meaningIn f bytes .marks)) * f .clen) × ((coefficients ≡ overFirst pair (meaningIn f bytes .coefficients) coefficients₀) × (marks ≡ overFirst pair (meaningIn f bytes .marks) marks₀)))
 
 abbrev μ-loop : tie.MeasureT-loop
-μ-loop bytes coefficients₀ marks₀ f count none length start place₀ pair₀ coefficients marks place pair =
+μ-loop bytes length coefficients₀ marks₀ f count none start place₀ pair₀ coefficients marks place pair =
     count - pair
 
 -- the fields are small
@@ -48,21 +48,21 @@ module _ (c : tie.At-loop Inv-loop μ-loop) where
   kept-coefficients : size (c .loop .coefficients) ≡ size (now (s .args .coefficients))
   kept-coefficients =
       filled-length (meaningFound bytes (s .args .found) .coefficients) (now (s .args .coefficients)) (c .loop .coefficients) (c .loop .pair) (c .loop .inv .1 .1 .0)
-      (omega (arith, c .loop .inv .0, count-is, coefficient-count bytes (s .args .found) (s .pre .0))) (omega (arith, c .loop .inv .0, count-is, s .pre .1 .0))
+      (omega (arith, c .loop .inv .0, count-is, coefficient-count bytes (s .args .found) (s .pre .0))) (omega (arith, c .loop .inv .0, count-is, s .pre .1 .1 .0))
 
   kept-marks : size (c .loop .marks) ≡ size (now (s .args .marks))
   kept-marks =
       filled-length (meaningFound bytes (s .args .found) .marks) (now (s .args .marks)) (c .loop .marks) (c .loop .pair) (c .loop .inv .1 .1 .1)
-      (omega (arith, c .loop .inv .0, count-is, mark-count bytes (s .args .found) (s .pre .0))) (omega (arith, c .loop .inv .0, count-is, s .pre .1 .1))
+      (omega (arith, c .loop .inv .0, count-is, mark-count bytes (s .args .found) (s .pre .0))) (omega (arith, c .loop .inv .0, count-is, s .pre .1 .1 .1))
 
 -- the pair is one of the pack's
 pair-below : (c : tie.In-loop Inv-loop μ-loop) → c .before .loop .pair < pairs (s (c .before) .args .found .fields .n)
 pair-below c = omega (arith, c .loop-test .taken, count-is (c .before))
 
 -- the word that is sent is there
-within : (c : tie.After-mark-at Inv-loop μ-loop) → let a = s (c .before .before) .args in c .before .before .loop .place + c .mark-at .result * a .found .fields .clen ≤ size (now (a .bytes))
+within : (c : tie.After-mark-at Inv-loop μ-loop) → let a = s (c .before .before) .args in c .before .before .loop .place + c .mark-at .result * a .length ≤ size (now (a .bytes))
 within c = let l = c .before .before in
-    coefficient-within (bytes l) (s l .args .found) (s l .pre .0) (l .loop .pair) (l .loop .place) (c .mark-at .result) (pair-below (c .before)) (place-is l) (c .mark-at .ensures)
+    coefficient-within (bytes l) (s l .args .found) (s l .pre .0) (l .loop .pair) (l .loop .place) (c .mark-at .result) (pair-below (c .before)) (place-is l) (c .mark-at .ensures) (s l .args .length) (s l .pre .1 .0)
 
 pairs-of-requires : tie.Need-pairs-of-requires Inv-loop μ-loop
 pairs-of-requires c κs = search needs
@@ -87,16 +87,16 @@ mark-at-requires : tie.Need-mark-at-requires Inv-loop μ-loop
 mark-at-requires c κs = let l = c .before in (l .before .before .before .header-bytes .ensures, (pair-below c, vector-within (bytes l) (s l .args .found) (s l .pre .0)))
 
 slice-write-marks : tie.Need-slice-write-marks Inv-loop μ-loop
-slice-write-marks c = let l = c .before .before in omega (arith, kept-marks l, s l .pre .1 .1, pair-below (c .before))
+slice-write-marks c = let l = c .before .before in omega (arith, kept-marks l, s l .pre .1 .1 .1, pair-below (c .before))
 
 word-or-requires : tie.Need-word-or-requires Inv-loop μ-loop
-word-or-requires c κs = (bounds (s (c .before .before)) .clen-few, within c)
+word-or-requires c κs = let g = s (c .before .before) in (omega (arith, bounds g .clen-few, g .pre .1 .0), within c)
 
 mul-coefficients : tie.Need-mul-coefficients Inv-loop μ-loop
 mul-coefficients c = omega (arith, pair-below (c .before .before), bounds (s (c .before .before .before)) .pairs-few)
 
 slice-write-coefficients : tie.Need-slice-write-coefficients Inv-loop μ-loop
-slice-write-coefficients c = let l = c .before .before .before in omega (arith, kept-coefficients l, s l .pre .1 .0, pair-below (c .before .before))
+slice-write-coefficients c = let l = c .before .before .before in omega (arith, kept-coefficients l, s l .pre .1 .1 .0, pair-below (c .before .before))
 
 cast-place : tie.Need-cast-place Inv-loop μ-loop
 cast-place c = search needs
@@ -120,13 +120,14 @@ loop-again c =
     let m = meaningFound (bytes l) (s l .args .found) in
     let g = s l in
     let mark = c .before .mark-at in
-    let is = coefficient-is (bytes l) (g .args .found) (g .pre .0) (l .loop .pair) (l .loop .place) (mark .result) b (place-is l) (mark .ensures) (l .before .before .before .before .nought-of .result) (c .word-or .result) (l .before .before .before .before .nought-of .ensures) (c .word-or .ensures) in (
+    let none = l .before .before .before .before .nought-of in
+    let is = coefficient-is (bytes l) (g .args .found) (g .pre .0) (l .loop .pair) (l .loop .place) (mark .result) b (place-is l) (mark .ensures) (g .args .length) (g .pre .1 .0) (none .result) (c .word-or .result) (none .ensures) (c .word-or .ensures) in (
       omega arith,
       (
-        omega (arith, l .loop .inv .1 .0, coefficient-next (bytes l) (g .args .found) (g .pre .0) (l .loop .pair) (l .loop .place) (mark .result) b (place-is l) (mark .ensures)),
+        omega (arith, l .loop .inv .1 .0, coefficient-next (bytes l) (g .args .found) (g .pre .0) (l .loop .pair) (l .loop .place) (mark .result) b (place-is l) (mark .ensures) (g .args .length) (g .pre .1 .0)),
         (
-          filled-more (m .coefficients) (now (g .args .coefficients)) (l .loop .coefficients) (l .loop .pair) (l .loop .inv .1 .1 .0) 0 (c .word-or .result) (omega (arith, b, coefficient-count (bytes l) (g .args .found) (g .pre .0))) (omega (arith, b, g .pre .1 .0)) is,
-          filled-more (m .marks) (now (g .args .marks)) (l .loop .marks) (l .loop .pair) (l .loop .inv .1 .1 .1) 0 (mark .result) (omega (arith, b, mark-count (bytes l) (g .args .found) (g .pre .0))) (omega (arith, b, g .pre .1 .1)) (mark .ensures),
+          filled-more (m .coefficients) (now (g .args .coefficients)) (l .loop .coefficients) (l .loop .pair) (l .loop .inv .1 .1 .0) 0 (c .word-or .result) (omega (arith, b, coefficient-count (bytes l) (g .args .found) (g .pre .0))) (omega (arith, b, g .pre .1 .1 .0)) is,
+          filled-more (m .marks) (now (g .args .marks)) (l .loop .marks) (l .loop .pair) (l .loop .inv .1 .1 .1) 0 (mark .result) (omega (arith, b, mark-count (bytes l) (g .args .found) (g .pre .0))) (omega (arith, b, g .pre .1 .1 .1)) (mark .ensures),
         ),
       ),
     )

@@ -1,5 +1,5 @@
 -- `unpack::words::unpack_found` meets its contract: the lists are filled where there is room in all three. Assumes nothing.
-use mathlib.Core.Path.{_≡_}
+use mathlib.Core.Path.{_≡_, refl}
 use mathlib.Core.List.{List}
 use Prim.Native.Nat.{ℕ, _<_, _≤_}
 use native.Mathlib.Omega.{arith}
@@ -75,8 +75,8 @@ fill-words-requires c κs =
     let bytes = now (s .args .bytes) in
     (small bytes (s .args .found) (s .pre) .slen-few, (deviations-within bytes (s .args .found) (s .pre), c .before .before .before .if1 .left))
 
-fill-sent-requires : tie.Need-fill-sent-requires
-fill-sent-requires c κs = let o = c .before .before .before .before .before .before .before in (start o .pre, (enough (o .before), marked o))
+sent-by-length-requires : tie.Need-sent-by-length-requires
+sent-by-length-requires c κs = let o = c .before .before .before .before .before .before .before in (start o .pre, (refl, (enough (o .before), marked o)))
 
 fill-all-requires : tie.Need-fill-all-requires
 fill-all-requires c κs =
@@ -103,7 +103,7 @@ module _ (w : tie.After-fill-words) where
 returns-4 : tie.Need-returns-4
 returns-4 c =
     let d = c .before .before .before .before in
-    filled (d .before .before .before .before .before .before) (d .fill-sent .last .1 .1 .0) (d .fill-sent .last .1 .1 .1 .0) (d .fill-sent .ensures)
+    filled (d .before .before .before .before .before .before) (d .sent-by-length .last .1 .1 .1 .0) (d .sent-by-length .last .1 .1 .1 .1 .0) (d .sent-by-length .ensures)
 
 returns-5 : tie.Need-returns-5
 returns-5 c =
@@ -111,4 +111,4 @@ returns-5 c =
     filled (d .before .before .before .before .before .before) (d .fill-all .last .1 .1 .0) (d .fill-all .last .1 .1 .1 .0) (d .fill-all .ensures)
 
 pub unpack-found-spec : {M : Type 1} → statement M
-unpack-found-spec = tie.close (tie.spec pairs-of-requires refuse-requires returns refuse-requires-2 returns-2 refuse-requires-3 returns-3 fill-words-requires fill-sent-requires (λ c. search needs) (λ c. search needs) (λ c. search needs) returns-4 fill-all-requires (λ c. search needs) (λ c. search needs) (λ c. search needs) returns-5)
+unpack-found-spec = tie.close (tie.spec pairs-of-requires refuse-requires returns refuse-requires-2 returns-2 refuse-requires-3 returns-3 fill-words-requires sent-by-length-requires (λ c. search needs) (λ c. search needs) (λ c. search needs) returns-4 fill-all-requires (λ c. search needs) (λ c. search needs) (λ c. search needs) returns-5)

@@ -24,14 +24,14 @@ returns-2 c =
     let missing : count (a .bytes .now) - a .place < a .length = omega arith in
     simp (le-ltb _ _ (c .before .before .if1 .left), lt-ltb _ _ missing) (ap (λ (there : ℕ). Unfinished (a .length - there)) (c .before .from-place .ensures))
 
-word-by-length-requires : tie.Need-word-by-length-requires
-word-by-length-requires c κs = search needs
+word-in-requires : tie.Need-word-in-requires
+word-in-requires c κs = search needs
 
 returns-3 : tie.Need-returns-3
 returns-3 c =
     let a = c .before .before .before .before .before .args in
     let there : a .length ≤ count (a .bytes .now) - a .place = omega arith in
-    simp (le-ltb _ _ (c .before .before .before .if1 .left), le-ltb _ _ there) (ap Word (c .word-by-length .ensures))
+    simp (le-ltb _ _ (c .before .before .before .if1 .left), le-ltb _ _ there) (ap Word (c .word-in .ensures))
 
 pub read-at-spec : {M : Type 1} → statement M
 read-at-spec =
@@ -41,5 +41,5 @@ read-at-spec =
     from-place-requires
     sub-t9
     returns-2
-    word-by-length-requires
+    word-in-requires
     returns-3)

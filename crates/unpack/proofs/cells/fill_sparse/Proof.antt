@@ -1,6 +1,6 @@
--- `unpack::cells::fill_pairs` meets its contract. The loop's invariant: the pairs of the first `row` rows are filled in. Assumes nothing.
+-- `unpack::cells::fill_sparse` meets its contract. The loop's invariant: the pairs of the first `row` rows are filled in. Assumes nothing.
 use Prim.Native.Nat.{ℕ, _+_, _-_, _*_, _≤_}
-use mathlib.Core.Path.{_≡_, subst, refl}
+use mathlib.Core.Path.{_≡_, subst}
 use mathlib.Core.List.{List}
 use native.Mathlib.Omega.{arith}
 use denote.Ref.{now}
@@ -11,10 +11,10 @@ use Rattle.unpack.specs.Found.{meaningFound}
 use Rattle.unpack.specs.Cells.{Grid, At, ofRows}
 use Rattle.unpack.proofs.Filling.{small, words-within}
 use Rattle.unpack.proofs.Grids.{room-kept}
-use Rattle.unpack.proofs.Rows.{rows-none, grid-row, first-at}
+use Rattle.unpack.proofs.Rows.{rows-none, cells-row, first-at}
 use borrow.Author.Needs.{needs}
-use Rattle.unpack.proofs.cells.fill_pairs.Statement.{statement}
-use Rattle.unpack.proofs.cells.fill_pairs.Tie as tie
+use Rattle.unpack.proofs.cells.fill_sparse.Statement.{statement}
+use Rattle.unpack.proofs.cells.fill_sparse.Tie as tie
 
 abbrev Inv-loop : tie.InvT-loop
 Inv-loop bytes found words₀ marks₀ f none next₀ row₀ words marks next row =
@@ -52,10 +52,10 @@ add-t10 c = omega (arith, ends (c .before .before .before .before .before .befor
 loop-holds : tie.Need-loop-holds Inv-loop μ-loop
 loop-holds c =
     let s = c .before .before .before .before .before .before .before in
-    (omega arith, (first-at (bytes s) (found s) (s .pre .0), rows-none (m s) (now (s .args .words)) (now (s .args .marks))))
+    (omega arith, (first-at (bytes s) (found s) (s .pre .0), record { words-filled = rows-none; marks-filled = rows-none }))
 
-fill-next-row-requires : tie.Need-fill-next-row-requires Inv-loop μ-loop
-fill-next-row-requires c κs =
+fill-sparse-row-requires : tie.Need-fill-sparse-row-requires Inv-loop μ-loop
+fill-sparse-row-requires c κs =
     let t = c .before .before in
     let l = t .before .before in
     let s = start l in
@@ -64,7 +64,7 @@ fill-next-row-requires c κs =
       nought-is = l .before .before .before .nought-of .ensures;
       within = omega (arith, t .if1 .taken);
       at = l .loop .inv .1 .0;
-      room = room-kept (m s) (s .pre .1) (l .loop .inv .1 .1);
+      room = record { for-words = room-kept (s .pre .1 .for-words) (l .loop .inv .1 .1 .words-filled); for-marks = room-kept (s .pre .1 .for-marks) (l .loop .inv .1 .1 .marks-filled) };
     }
 
 add-row : tie.Need-add-row Inv-loop μ-loop
@@ -81,7 +81,14 @@ loop-again c =
     let s = start l in
     let row = l .loop .row in
     let further : row + 2 ≡ row + 1 + 1 = omega arith in
-    (omega (arith, t .if1 .taken), (subst (λ (k : ℕ). At (m s) (found s) (row + 1) k (r .fill-next-row .result)) further (r .fill-next-row .ensures .0), grid-row (m s) (found s .fields .n) refl row (l .loop .inv .1 .1) (r .fill-next-row .ensures .1)))
+    let filled = l .loop .inv .1 .1 in
+    let more = r .fill-sparse-row .ensures .1 in (
+      omega (arith, t .if1 .taken),
+      (
+        subst (λ (k : ℕ). At (m s) (found s) (row + 1) k (r .fill-sparse-row .result)) further (r .fill-sparse-row .ensures .0),
+        record { words-filled = cells-row row (filled .words-filled) (more .words-filled); marks-filled = cells-row row (filled .marks-filled) (more .marks-filled) },
+      ),
+    )
 
 same-length : tie.Need-same-length Inv-loop μ-loop
 same-length c = c .before .before .loop .inv .1 .1 .words-filled .same-length
@@ -96,8 +103,8 @@ returns c =
     let all : l .loop .row ≡ found s .fields .n = omega (arith, l .loop .inv .0, c .if1 .left) in
     subst (λ (k : ℕ). Grid (m s) (ofRows k) (now (s .args .words)) (now (s .args .marks)) (l .loop .words) (l .loop .marks)) all (l .loop .inv .1 .1)
 
-pub fill-pairs-spec : {M : Type 1} → statement M
-fill-pairs-spec =
+pub fill-sparse-spec : {M : Type 1} → statement M
+fill-sparse-spec =
     tie.close
     (tie.spec
     Inv-loop
@@ -106,7 +113,7 @@ fill-pairs-spec =
     mul-t9
     add-t10
     loop-holds
-    fill-next-row-requires
+    fill-sparse-row-requires
     add-row
     loop-less
     loop-again
