@@ -69,7 +69,7 @@ fn word_by_length(bytes: &[u8], place: usize, length: usize) -> u64
     }
 }
 
-// The same where the length is not written out at the call.
+// The word there if its mark is 1, else the nought, where the length is not written out at the call.
 pub(crate) fn any_word_or(bytes: &[u8], place: usize, length: usize, mark: u8, none: u64) -> u64
     requires { ⌜ (length ≤ 8) × (place + mark * length ≤ count (now bytes)) ⌝ }
     ensures { λ r. ⌜ r ≡ cond (eqb mark 0) none (wordAt (now (bytes .entry)) place length) ⌝ }
@@ -143,7 +143,7 @@ fn fill_all(bytes: &[u8], found: Found, coefficients: &mut [u64], marks: &mut [u
     fill_marks(marks, number, mark_of(f.clen));
 }
 
-// The coefficients of a sparse matrix, by their bits, which have so many bytes each.
+// The coefficients of a sparse matrix, of so many bytes each, by their bits.
 fn fill_sent(bytes: &[u8], found: Found, length: usize, coefficients: &mut [u64], marks: &mut [u8])
     requires { ⌜ Whole (now bytes) found × ((length ≡ found .fields .clen) × ((pairs (found .fields .n) ≤ count (now coefficients)) × (pairs (found .fields .n) ≤ count (now marks)))) ⌝ }
     ensures { λ _. ⌜ (now (coefficients .exit) ≡ over (meaningFound (now (bytes .entry)) found .coefficients) (now (coefficients .entry))) × (now (marks .exit) ≡ over (meaningFound (now (bytes .entry)) found .marks) (now (marks .entry))) ⌝ }

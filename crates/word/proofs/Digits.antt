@@ -138,7 +138,7 @@ bytes-bits (suc n) =
     pow-suc 256 n ∙ rw (bytes-bits n, e) (sym (pow-add 2 (8 * n) 8))
 
 -- a word is its first bytes, and the others behind them
-pub word-parts : (s : List ℕ) (place a b : ℕ) → a + b ≤ length s - place → wordAt s place (a + b) ≡ wordAt s place a * 256 ^ b + wordAt s (place + a) b
+word-parts : (s : List ℕ) (place a b : ℕ) → a + b ≤ length s - place → wordAt s place (a + b) ≡ wordAt s place a * 256 ^ b + wordAt s (place + a) b
 word-parts s place a b h =
     let l : length (take b (drop (place + a) s)) ≡ b = length-take-le b (drop (place + a) s) (rw length-drop (omega arith)) in
     rw (take-add a b (drop place s), drop-drop, valueOn-append, valueOn-split 256 (wordAt s place a) (take b (drop (place + a) s)), l)
