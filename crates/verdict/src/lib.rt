@@ -1,4 +1,6 @@
 // The answer of every reader and writer: why a refusal is given, where, and the verdict on a string of bytes.
+#![tactic(auto)]
+
 ghost use Rattle.std.specs.Prelude.{◌≡◌, ◌-◌, min};
 ghost use Rattle.verdict.specs.Numbers.{number_of, packed_of};
 ghost use Rattle.verdict.specs.Writing.{refusing};
