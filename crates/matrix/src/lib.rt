@@ -1,5 +1,7 @@
 // Matrix packs: the Value of an SDCC-FLP in Mode 1 or Mode 2 Parse Control.
 
+#![tactic(auto)]
+
 // The size N, the five control fields by their names in the standard, and the mode; the flags stand last, where they share a word. `cf` and `sf`
 // are true for mapped words, `mode1` for the one control byte of Mode 1.
 #[derive(Drop)]
