@@ -1,5 +1,5 @@
 -- The bytes of a meaning, and the meaning that bytes have.
-use Rattle.std.specs.Prelude.{ℕ, zero, suc, ◌+◌, ◌*◌, cond, List, [], ◌∷◌, ◌++◌, take, drop, replicate, get_or, eqb}
+use Rattle.std.specs.Prelude.{ℕ, zero, suc, ◌*◌, cond, List, [], ◌∷◌, ◌++◌, take, drop, replicate, get_or, eqb}
 use Rattle.word.specs.Digits.{digits, value_of}
 use Rattle.matrix.specs.declared.Fields.{Fields}
 use Rattle.matrix.specs.declared.Told.{Told}
