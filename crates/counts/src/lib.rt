@@ -1,4 +1,7 @@
 // How many pairs, marks and bytes the fields of a matrix ask for.
+
+#![tactic(auto)]
+
 ghost use Rattle.std.specs.Prelude.{◌≡◌, min};
 ghost use Rattle.matrix.specs.Header.{bit, header_bytes};
 ghost use Rattle.counts.specs.Counts.{pairs_up_to, vector_up_to};

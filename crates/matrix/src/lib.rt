@@ -4,7 +4,7 @@
 
 // The size N, the five control fields by their names in the standard, and the mode; the flags stand last, where they share a word. `cf` and `sf`
 // are true for mapped words, `mode1` for the one control byte of Mode 1.
-#[derive(Drop)]
+#[derive(Clone, Copy)]
 pub struct Fields {
     pub n: usize,
     pub clen: usize,
@@ -16,7 +16,7 @@ pub struct Fields {
 }
 
 // What a reader is told: the format of Mode 1's deviations, true for mapped words, and whether Mode 1 is let in.
-#[derive(Drop)]
+#[derive(Clone, Copy)]
 pub struct Told {
     pub mapped: bool,
     pub mode1: bool,

@@ -1,4 +1,7 @@
 // What stands before the words of a matrix pack: its fields, and how many coefficients are sent.
+
+#![tactic(auto)]
+
 ghost use Rattle.std.specs.Prelude.{◌≡◌, ◌≤◌, length};
 ghost use Rattle.matrix.specs.Meaning.{LawfulFields};
 ghost use Rattle.matrix.specs.Header.{header_bytes};

@@ -8,7 +8,7 @@ use matrixwalk::{Walked, found_in};
 use verdict::{Refusal, Verdict};
 
 // What reading a matrix pack answers: its fields and its length, or the verdict where it is not complete.
-#[derive(Drop)]
+#[derive(Clone, Copy)]
 pub enum MatrixRead {
     Matrix { fields: Fields, length: usize },
     Unfinished(usize),

@@ -12,7 +12,7 @@ use verdict::Refusal;
 mod words;
 
 // A whole pack: its fields, the place of its first word, how many coefficients are sent, its length.
-#[derive(Drop)]
+#[derive(Clone, Copy)]
 pub struct Found {
     pub fields: Fields,
     pub words: usize,

@@ -5,7 +5,7 @@ ghost use Rattle.rule.specs.Rules.{cleared, admitted, mapped_rule, half, single,
 use verdict::{Reason, Refusal};
 
 // With its sign cleared, a word of `length` bytes is at most `greatest`. A sign of 0 is none.
-#[derive(Drop)]
+#[derive(Clone, Copy)]
 pub struct Rule {
     pub length: usize,
     pub sign: u64,
@@ -189,7 +189,7 @@ pub fn coefficient_rule(mapped: bool, length: usize) -> Ruled
 }
 
 // The form of some words: coefficients or deviations, mapped or IEEE, and their length.
-#[derive(Drop)]
+#[derive(Clone, Copy)]
 pub struct Form {
     pub coefficients: bool,
     pub mapped: bool,
