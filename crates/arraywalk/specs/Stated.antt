@@ -1,5 +1,5 @@
 -- What a walk over an array pack's numbers states in document 01's terms.
-use Rattle.std.specs.Prelude.{ℕ, ◌-◌, ◌*◌, [], ◌∷◌, length}
+use Rattle.std.specs.Prelude.{ℕ, ◌-◌, ◌*◌, [], ◌∷◌}
 use Rattle.verdict.specs.declared.Verdict.{Verdict}
 use Rattle.verdict.specs.declared.Verdict.TheVariants.{Complete, Unfinished, Refused}
 use Rattle.verdict.specs.Stated.{Stated, gives, misses, stated_refusal}

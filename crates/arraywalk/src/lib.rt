@@ -1,4 +1,6 @@
 // One pass over the numbers of an array pack: what was found of a whole one, or why there is none. The array itself is not looked at.
+#![tactic(auto)]
+
 ghost use Rattle.std.specs.Prelude.{◌≡◌, ◌≢◌, ℕ, ◌≤◌};
 ghost use Rattle.verdict.specs.Machine.{bad};
 ghost use Rattle.verdict.specs.Says.{Bytes};
@@ -38,7 +40,7 @@ pub(crate) struct Progress {
 }
 
 // The sizes drawn: the place behind them, their product.
-#[derive(Drop)]
+#[derive(Clone, Copy, Drop)]
 pub(crate) struct Sized {
     pub place: usize,
     pub product: usize,

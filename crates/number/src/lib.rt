@@ -1,4 +1,6 @@
 // BER-OID numbers: what each octet does to a number, drawing one at a place, and the reader that holds the lent bytes.
+#![tactic(auto)]
+
 ghost use Rattle.std.specs.Prelude.{◌≡◌, ◌+◌, ◌<◌, length};
 ghost use Rattle.number.specs.Octet.{ended, gone_on, effect_of};
 ghost use Rattle.number.specs.declared.Drawn.TheVariants.{Number, Cut};
@@ -15,7 +17,7 @@ pub enum Effect {
 }
 
 // What drawing a number finds: the number and the place behind it, a number that the bytes end within, or a refusal.
-#[derive(Drop)]
+#[derive(Clone, Copy, Drop)]
 pub enum Drawn {
     Number { value: u64, next: usize },
     Cut(u64),
@@ -156,7 +158,7 @@ fn place_behind(drawn: Drawn, place: usize) -> usize
 }
 
 // The reader: the lent bytes, the place in them at which the next number stands, and what was drawn last.
-#[derive(Drop)]
+#[derive(Clone, Copy, Drop)]
 pub struct Numbers<'a> {
     pub bytes: &'a [u8],
     pub place: usize,

@@ -1,2 +1,4 @@
 // Writing BER-OID numbers.
+#![tactic(auto)]
+
 pub mod write;
