@@ -9,8 +9,8 @@ use lib.Dec.{leb}
 use lib.ListN.{length}
 use Rattle.verdict.specs.Says.{Bytes}
 use Rattle.verdict.proofs.Cases.{by_test}
-use Rattle.hex.specs.Hex.{is_digit, digit_of, is_hex, hex_of, character_of, spelling}
-use Rattle.hex.proofs.DigitPairs.{digit_ranges, digit_worth}
+use Rattle.hexpairs.specs.Hex.{is_digit, digit_of, is_hex, hex_of, character_of, spelling}
+use Rattle.hexpairs.proofs.DigitPairs.{digit_ranges, digit_worth}
 
 -- ---- one digit
 

@@ -4,8 +4,8 @@ use contract.Lifetimes.{Lfts}
 use borrow.Fn.Kinds.{Dens, res_t, ended_of}
 use denote.Triple.Clauses.{AtExit}
 use Rattle.verdict.proofs.OneAnswer.{OneAnswer}
-use Rattle.hex.proofs.decode.Kinds as decode
-use Rattle.hex.proofs.decode.Reads as decode-reads
+use Rattle.hexpairs.proofs.decode.Kinds as decode
+use Rattle.hexpairs.proofs.decode.Reads as decode-reads
 
 pub decode_only : OneAnswer decode.ps decode.r decode-reads.Post
 decode_only κs a x y s t p q = p.said ∙ sym q.said

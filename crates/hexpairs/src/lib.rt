@@ -1,6 +1,8 @@
 // Upper-case hexadecimal: whether a text is pairs of digits, and the bytes that they spell.
+#![tactic(auto)]
+
 ghost use Rattle.std.specs.Prelude.{◌≡◌, true, ◌++◌, ◌≤◌, ◌/◌, length, drop};
-ghost use Rattle.hex.specs.Hex.{is_digit, digit_of, is_hex, hex_of, Decoded};
+ghost use Rattle.hexpairs.specs.Hex.{is_digit, digit_of, is_hex, hex_of, Decoded};
 
 use verdict::{Reason, Refusal, Verdict};
 

@@ -17,7 +17,7 @@ use Rattle.verdict.specs.Writing.{refusing, decided, room_rows}
 use Rattle.verdict.proofs.Cases.{either, or_left}
 use Rattle.verdict.proofs.Deciding.{written_on, written_off, kept_written, room_missing, room_enough}
 use Rattle.verdict.proofs.Putting.{put_first}
-use Rattle.hex.specs.Hex.{is_digit, digit_of, is_hex, hex_of, hex_rows, Decoded}
+use Rattle.hexpairs.specs.Hex.{is_digit, digit_of, is_hex, hex_of, hex_rows, Decoded}
 
 -- whether each character is a digit
 unfoldable pub all_digits : List ℕ → Bool
