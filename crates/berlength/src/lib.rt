@@ -1,4 +1,6 @@
 // A BER length in its shortest form: 00 to 7F; 81 and one byte; 82 and two bytes.
+#![tactic(auto)]
+
 ghost use Rattle.std.specs.Prelude.{◌≡◌, drop};
 ghost use Rattle.berlength.specs.Lengths.{one_byte, two_bytes, length_of};
 

@@ -1,4 +1,6 @@
 // Lines from the characters of an input that comes in chunks: the open line is held in a lent line buffer.
+#![tactic(auto)]
+
 ghost use Rattle.std.specs.Prelude.{◌≡◌, true, ◌+◌, ◌-◌, ◌≤◌, min, length};
 ghost use Rattle.lines.specs.Taking.{longest_line, kept_all, held_all, TakenBy};
 ghost use Rattle.lines.specs.Searching.{Clear, Piece};

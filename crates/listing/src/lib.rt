@@ -1,4 +1,6 @@
 // Numbers listed in a lent list, by the verdict on the pack whose they are.
+#![tactic(auto)]
+
 ghost use Rattle.listing.specs.Listed.{ListedBy};
 
 use verdict::{Reason, Verdict, refuse};

@@ -1,4 +1,6 @@
 // What is said of a frame: its kind, and what came of it.
+#![tactic(auto)]
+
 ghost use Rattle.std.specs.Prelude.{◌≡◌};
 ghost use Rattle.outcome.specs.Letters.{letter_of};
 ghost use Rattle.outcome.specs.Refusing.{refusing};
