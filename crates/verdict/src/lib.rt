@@ -6,7 +6,7 @@ ghost use Rattle.verdict.specs.Numbers.{number_of, packed_of};
 ghost use Rattle.verdict.specs.Writing.{refusing};
 
 // Why bytes or arguments are refused, each under its name in documents 01 and 02.
-#[derive(Drop)]
+#[derive(Clone, Copy, Drop)]
 pub enum Reason {
     Zero,
     TooLarge,
@@ -33,7 +33,7 @@ pub enum Reason {
 }
 
 // A refusal: its reason, and its place counted from 0 at the pack's first byte.
-#[derive(Drop)]
+#[derive(Clone, Copy, Drop)]
 pub struct Refusal {
     pub reason: Reason,
     pub place: usize,
