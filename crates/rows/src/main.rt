@@ -3,6 +3,8 @@
 // "U HEX D C M" a matrix pack unpacked into lists of these lengths, "E HEX W M" expanded, "C HEX" its scaled coefficients.
 // "R HEX" a matrix pack and "Q HEX" an array pack, read and written again. "W HEX" writes the matrix and "X HEX" the array that these bytes give.
 // A star in place of the space states mapped deviations for Mode 1, a space IEEE ones.
+#![tactic(auto)]
+
 ghost use Rattle.std.specs.Prelude.{◌≤◌};
 
 use libc::{STDIN_FILENO, STDOUT_FILENO};
