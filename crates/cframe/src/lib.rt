@@ -1,4 +1,6 @@
 // What C calls of frames: the kind in a lent byte, the answer packed into one number.
+#![tactic(auto)]
+
 ghost use Rattle.std.specs.Prelude.{◌≡◌};
 ghost use Rattle.cframe.specs.Said.{said_of, FrameSaid};
 

@@ -8,7 +8,7 @@ ghost use Rattle.outcome.specs.Refusing.{refusing};
 use verdict::{Reason, Refusal};
 
 // The kind of pack that a frame's key names.
-#[derive(Drop)]
+#[derive(Clone, Copy, Drop)]
 pub enum Kind {
     Matrix,
     Array,
@@ -16,7 +16,7 @@ pub enum Kind {
 }
 
 // What is said of a frame: a whole pack of so many bytes, one with so many missing, a refusal, or a line that is not closed.
-#[derive(Drop)]
+#[derive(Clone, Copy, Drop)]
 pub enum Outcome {
     Ok(usize),
     Cut(usize),
@@ -25,7 +25,7 @@ pub enum Outcome {
 }
 
 // The answer to a frame, or to its line.
-#[derive(Drop)]
+#[derive(Clone, Copy, Drop)]
 pub struct FrameAnswer {
     pub kind: Kind,
     pub outcome: Outcome,

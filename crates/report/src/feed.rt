@@ -17,7 +17,7 @@ use verdict::{Reason, Refusal, Verdict};
 pub const ROOM: usize = 80;
 
 // The number of the open line, and how many of its characters are held; more than `LINE` where it ran over.
-#[derive(Drop)]
+#[derive(Clone, Copy, Drop)]
 pub struct State {
     pub number: u64,
     pub held: usize,

@@ -3,9 +3,11 @@
 // "U HEX D C M" a matrix pack unpacked into lists of these lengths, "E HEX W M" expanded, "C HEX" its scaled coefficients.
 // "R HEX" a matrix pack and "Q HEX" an array pack, read and written again. "W HEX" writes the matrix and "X HEX" the array that these bytes give.
 // A star in place of the space states mapped deviations for Mode 1, a space IEEE ones.
+#![tactic(auto)]
+
 ghost use Rattle.std.specs.Prelude.{◌≤◌};
 
-use libc::{STDIN_FILENO, STDOUT_FILENO};
+use std::io::{Read, Stdin, Stdout};
 use verdict::lesser;
 use word::bytes::byte_at;
 
@@ -54,7 +56,7 @@ fn decode(text: &[u8], out: &mut [u8; 65536]) -> usize
 }
 
 // The decimal numbers behind a row's bytes, at most 16.
-#[derive(Drop)]
+#[derive(Clone, Copy, Drop)]
 pub(crate) struct Given {
     pub count: usize,
     pub values: [usize; 16],
@@ -106,29 +108,29 @@ fn zeros(kind: usize, given: Given) -> usize
 }
 
 // What a row of this kind gives under a stated format; its text is said before.
-fn say_row(kind: usize, format: usize, bytes: &[u8], given: Given) {
+fn say_row(to: Stdout, kind: usize, format: usize, bytes: &[u8], given: Given) {
     match kind {
-        65 => reads::address_row(bytes, given),
-        67 => scales::pack_row(format, bytes),
-        69 => reads::expand_row(format, bytes, given),
-        75 => scales::words_row(bytes, given),
-        80 => reads::frame_row(bytes),
-        85 => reads::unpack_row(format, bytes, given),
-        87 => writes::matrix_row(format, bytes),
-        88 => writes::array_row(bytes),
-        _ => say::say_answer(reads::verdict_on(kind, format, bytes)),
+        65 => reads::address_row(to, bytes, given),
+        67 => scales::pack_row(to, format, bytes),
+        69 => reads::expand_row(to, format, bytes, given),
+        75 => scales::words_row(to, bytes, given),
+        80 => reads::frame_row(to, bytes),
+        85 => reads::unpack_row(to, format, bytes, given),
+        87 => writes::matrix_row(to, format, bytes),
+        88 => writes::array_row(to, bytes),
+        _ => say::say_answer(to, reads::verdict_on(kind, format, bytes)),
     }
 }
 
 // The text of a row is said too, but not of what is written again.
-fn texted_row(kind: usize, format: usize, text: &[u8], bytes: &[u8], given: Given) {
+fn texted_row(to: Stdout, kind: usize, format: usize, text: &[u8], bytes: &[u8], given: Given) {
     if kind > 90 {
-        reads::beginnings(kind, format, bytes);
+        reads::beginnings(to, kind, format, bytes);
     }
-    io::write_all(STDOUT_FILENO, text);
-    say::put(32);
-    say_row(kind, format, bytes, given);
-    say::put(10);
+    say::write(to, text);
+    say::put(to, 32);
+    say_row(to, kind, format, bytes, given);
+    say::put(to, 10);
 }
 
 // The format that a row states: 1 for a star, else 0.
@@ -140,56 +142,56 @@ fn format_in(text: &[u8]) -> usize {
 }
 
 // A pack that is written again: its letter, with its star.
-fn say_letter(kind: u8, format: usize) {
-    say::put(kind);
+fn say_letter(to: Stdout, kind: u8, format: usize) {
+    say::put(to, kind);
     if format == 1 {
-        say::put(42);
+        say::put(to, 42);
     }
 }
 
 // A row whose text spells so many bytes; those behind them are 0.
-fn row_of(text: &[u8], bytes: &[u8; 65536], n: usize)
+fn row_of(to: Stdout, text: &[u8], bytes: &[u8; 65536], n: usize)
     requires { n ≤ 65536 }
 {
     let all = &bytes[..];
     let kind = byte_at(text, 0);
     let format = format_in(text);
     if kind == 81 {
-        say_letter(81, format);
-        writes::again_row(kind, format, &all[0..n]);
+        say_letter(to, 81, format);
+        writes::again_row(to, kind, format, &all[0..n]);
         return;
     }
     if kind == 82 {
-        say_letter(82, format);
-        writes::again_row(kind, format, &all[0..n]);
+        say_letter(to, 82, format);
+        writes::again_row(to, kind, format, &all[0..n]);
         return;
     }
     let given = given_in(text, 2 + 2 * n);
     let end = lesser(n + zeros(kind, given), 65536);
-    texted_row(kind, format, text, &all[0..end], given);
+    texted_row(to, kind, format, text, &all[0..end], given);
 }
 
 // A row: its letter, a space or a star, its bytes, its numbers.
-fn row(text: &[u8]) {
+fn row(to: Stdout, text: &[u8]) {
     let mut bytes = [0u8; 65536];
     let n = decode(text, &mut bytes);
-    row_of(text, &bytes, n);
+    row_of(to, text, &bytes, n);
 }
 
 // A line of so many characters.
-fn line_row(text: &[u8; 131072], n: usize)
+fn line_row(to: Stdout, text: &[u8; 131072], n: usize)
     requires { n ≤ 131072 }
 {
     let all = &text[..];
-    row(&all[0..n]);
+    row(to, &all[0..n]);
 }
 
 // The next character of the input, 256 at its end.
-fn next_character() -> usize
+fn next_character(mut from: Stdin) -> usize
     ensures { result ≤ 256 }
 {
     let mut one = [0u8; 1];
-    let got = io::read_full(STDIN_FILENO, &mut one);
+    let got = from.read(&mut one).unwrap_or(0);
     if got == 0 {
         return 256;
     }
@@ -197,12 +199,12 @@ fn next_character() -> usize
 }
 
 // The characters of the next line: how many; 131,072 where the input ends before the line does.
-fn next_line(text: &mut [u8; 131072]) -> usize
+fn next_line(from: Stdin, text: &mut [u8; 131072]) -> usize
     ensures { result ≤ 131072 }
 {
     let mut n = 0;
     while n < 131072 {
-        let c = next_character();
+        let c = next_character(from);
         if c == 10 {
             return n;
         }
@@ -216,24 +218,24 @@ fn next_line(text: &mut [u8; 131072]) -> usize
 }
 
 // One line: whether there was one.
-fn take_row() -> bool {
+fn take_row(from: Stdin, to: Stdout) -> bool {
     let mut text = [0u8; 131072];
-    let n = next_line(&mut text);
+    let n = next_line(from, &mut text);
     if n == 131072 {
         return false;
     }
     if n > 1 {
-        line_row(&text, n);
+        line_row(to, &text, n);
     }
     true
 }
 
 // Reads to the end of the input; the count of turns is more than any input takes.
-fn main() {
+fn main(rt: HostRuntime) {
     let mut more = true;
     let mut turns = u64::MAX;
     while turns > 0 && more {
-        more = take_row();
+        more = take_row(rt.stdin(), rt.stdout());
         turns -= 1;
     }
 }

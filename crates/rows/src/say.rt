@@ -1,5 +1,5 @@
 // What is said of an answer and of lent lists, and whether all entries but those filled are as they were.
-use libc::STDOUT_FILENO;
+use std::io::Stdout;
 use word::bytes::byte_at;
 
 // What every entry holds before a call.
@@ -12,83 +12,93 @@ pub(crate) const UNFINISHED: u64 = 0x1_0000_0000;
 
 const REFUSED: u64 = 0x2_0000_0000;
 
+// A text; that it can't be written changes nothing of what is said next.
+pub(crate) fn write(to: Stdout, text: &[u8]) {
+    let _ = to.write_all(text);
+}
+
+// A number's decimal digits.
+fn say_decimal(to: Stdout, number: u64) {
+    let _ = to.print(number);
+}
+
 // One character.
-pub(crate) fn put(c: u8) {
+pub(crate) fn put(to: Stdout, c: u8) {
     let one = [c];
-    io::write_all(STDOUT_FILENO, &one);
+    write(to, &one);
 }
 
 // A number behind a space.
-pub(crate) fn say_next(number: u64) {
-    put(32);
-    io::print_decimal(STDOUT_FILENO, number);
+pub(crate) fn say_next(to: Stdout, number: u64) {
+    put(to, 32);
+    say_decimal(to, number);
 }
 
 // What a list's entries are: deviations, coefficients, words, marks; nothing of bytes that were written.
-fn say_name(name: u8) {
+fn say_name(to: Stdout, name: u8) {
     match name {
         68 => {
-            io::write_all(STDOUT_FILENO, b" deviations");
+            write(to, b" deviations");
         }
         67 => {
-            io::write_all(STDOUT_FILENO, b" coefficients");
+            write(to, b" coefficients");
         }
         87 => {
-            io::write_all(STDOUT_FILENO, b" words");
+            write(to, b" words");
         }
         77 => {
-            io::write_all(STDOUT_FILENO, b" marks");
+            write(to, b" marks");
         }
         _ => {}
     }
 }
 
 // A number behind a text.
-pub(crate) fn say(text: &[u8], number: u64) {
-    io::write_all(STDOUT_FILENO, text);
-    io::print_decimal(STDOUT_FILENO, number);
+pub(crate) fn say(to: Stdout, text: &[u8], number: u64) {
+    write(to, text);
+    say_decimal(to, number);
 }
 
 // An answer as C gets it.
-pub(crate) fn say_answer(answer: u64) {
+pub(crate) fn say_answer(to: Stdout, answer: u64) {
     if answer < UNFINISHED {
-        say(b"complete ", answer);
+        say(to, b"complete ", answer);
         return;
     }
     if answer < REFUSED {
-        say(b"unfinished ", answer - UNFINISHED);
+        say(to, b"unfinished ", answer - UNFINISHED);
         return;
     }
     let refusal = answer - REFUSED;
-    say(b"refused ", refusal / 65536);
-    say(b" at ", refusal % 65536);
+    say(to, b"refused ", refusal / 65536);
+    say(to, b" at ", refusal % 65536);
 }
 
 // A list's entries behind their name.
-pub(crate) fn say_words(name: u8, list: &[u64]) {
-    say_name(name);
+pub(crate) fn say_words(to: Stdout, name: u8, list: &[u64]) {
+    say_name(to, name);
     let mut i = 0;
     while i < list.len() {
-        say_next(list[i]);
+        say_next(to, list[i]);
         i += 1;
     }
 }
 
-pub(crate) fn say_bytes(name: u8, list: &[u8]) {
-    say_name(name);
+pub(crate) fn say_bytes(to: Stdout, name: u8, list: &[u8]) {
+    say_name(to, name);
     let mut i = 0;
     while i < list.len() {
-        say_next(byte_at(list, i) as u64);
+        say_next(to, byte_at(list, i) as u64);
         i += 1;
     }
 }
 
 // An answer behind how many bytes it is on.
-pub(crate) fn say_begun(count: usize, answer: u64) {
-    io::print_decimal(STDOUT_FILENO, count as u64);
-    put(32);
-    say_answer(answer);
-    put(10);
+pub(crate) fn say_begun(to: Stdout, count: usize, answer: u64) {
+    say_decimal(to, count as u64);
+    put(to, 32);
+    say_answer(to, answer);
+    put(to, 10);
 }
 
 // Whether the first entry, and those behind so many, are as they were.
@@ -112,10 +122,10 @@ pub(crate) fn kept_bytes(list: &[u8], count: usize) -> bool {
     kept
 }
 
-pub(crate) fn say_kept(kept: bool) {
+pub(crate) fn say_kept(to: Stdout, kept: bool) {
     if kept {
-        io::write_all(STDOUT_FILENO, b" kept");
+        write(to, b" kept");
         return;
     }
-    io::write_all(STDOUT_FILENO, b" lost");
+    write(to, b" lost");
 }

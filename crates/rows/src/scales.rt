@@ -3,9 +3,9 @@ ghost use Rattle.std.specs.Prelude.{◌≤◌};
 
 use crate::Given;
 use crate::reads::{filled, pairs_of};
-use crate::say::{UNFINISHED, say, say_answer, say_kept, say_next};
+use crate::say::{UNFINISHED, say, say_answer, say_kept, say_next, write};
 use crate::writes::words_in;
-use libc::STDOUT_FILENO;
+use std::io::Stdout;
 use verdict::lesser;
 
 // What every entry holds before a call: no word scales to it.
@@ -19,21 +19,21 @@ fn size_of(value: i64) -> u64 {
     ((-1 - value) as u64) + 1
 }
 
-fn say_value(value: i64) {
+fn say_value(to: Stdout, value: i64) {
     let size = size_of(value);
     if value < 0 {
-        say(b" -", size);
+        say(to, b" -", size);
         return;
     }
-    say_next(size);
+    say_next(to, size);
 }
 
 // A list's entries.
-fn say_values(list: &[i64]) {
-    io::write_all(STDOUT_FILENO, b" scaled");
+fn say_values(to: Stdout, list: &[i64]) {
+    write(to, b" scaled");
     let mut i = 0;
     while i < list.len() {
-        say_value(list[i]);
+        say_value(to, list[i]);
         i += 1;
     }
 }
@@ -50,15 +50,15 @@ fn kept_values(list: &[i64], count: usize) -> bool {
 }
 
 // The unit of a length: what the word 0 is below nought.
-fn say_unit(length: usize) {
+fn say_unit(to: Stdout, length: usize) {
     let least = [0u64];
     let mut unit = [0i64];
     cwords::matrix_scale(&least, length, &mut unit);
-    say(b" of ", size_of(unit[0]));
+    say(to, b" of ", size_of(unit[0]));
 }
 
 // The coefficients of a whole pack.
-pub(crate) fn pack_row(format: usize, bytes: &[u8]) {
+pub(crate) fn pack_row(to: Stdout, format: usize, bytes: &[u8]) {
     let mut fields = [0usize; 7];
     let mut deviations = [0u64; 64];
     let mut coefficients = [0u64; 2016];
@@ -71,34 +71,34 @@ pub(crate) fn pack_row(format: usize, bytes: &[u8]) {
         &mut coefficients,
         &mut marks,
     );
-    let m = pairs_of(filled(answer, bytes));
+    let m = pairs_of(filled(to, answer, bytes));
     cmatrix::matrix_fields(bytes, format, &mut fields);
     cwords::matrix_scale(&coefficients[0..m], fields[3], &mut scaled);
-    say_values(&scaled[0..m]);
-    say_unit(fields[3]);
+    say_values(to, &scaled[0..m]);
+    say_unit(to, fields[3]);
 }
 
 // The answer, what was filled of a list, and whether all other entries are as they were.
-fn say_scaled(answer: u64, list: &[i64; 72], count: usize)
+fn say_scaled(to: Stdout, answer: u64, list: &[i64; 72], count: usize)
     requires { count ≤ 64 }
 {
     let all = &list[..];
-    say_answer(answer);
+    say_answer(to, answer);
     if answer < UNFINISHED {
-        say_values(&all[1..1 + count]);
-        say_kept(kept_values(all, count));
+        say_values(to, &all[1..1 + count]);
+        say_kept(to, kept_values(all, count));
         return;
     }
-    say_kept(kept_values(all, 0));
+    say_kept(to, kept_values(all, 0));
 }
 
 // Words in eight bytes each, by the length and the room that the row gives.
-pub(crate) fn words_row(bytes: &[u8], given: Given) {
+pub(crate) fn words_row(to: Stdout, bytes: &[u8], given: Given) {
     let mut scaled = [CANARY; 72];
     let values = given.values;
     let words = words_in(bytes, 0);
     let count = lesser(bytes.len() / 8, 64);
     let room = lesser(values[1], 70);
     let answer = cwords::matrix_scale(&words[0..count], values[0], &mut scaled[1..1 + room]);
-    say_scaled(answer, &scaled, count);
+    say_scaled(to, answer, &scaled, count);
 }

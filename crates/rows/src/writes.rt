@@ -1,8 +1,10 @@
 // Rows of the writers: a pack that is read is written again, or what is written stands in the row's bytes. The buffer is lent from the middle of a longer one.
 ghost use Rattle.std.specs.Prelude.{◌≤◌};
 
-use crate::say::{CANARY_BYTE, UNFINISHED, kept_bytes, say_answer, say_bytes, say_kept, say_next};
-use libc::STDOUT_FILENO;
+use crate::say::{
+    CANARY_BYTE, UNFINISHED, kept_bytes, say_answer, say_bytes, say_kept, say_next, write,
+};
+use std::io::Stdout;
 use verdict::lesser;
 use word::bytes::{Read, byte_at, read_at};
 
@@ -101,31 +103,31 @@ fn same(kind: usize, format: usize, bytes: &[u8]) -> bool {
         & (again(kind, format, bytes, count - 1) & again(kind, format, bytes, count + 9))
 }
 
-fn say_same(same: bool) {
+fn say_same(to: Stdout, same: bool) {
     if same {
-        io::write_all(STDOUT_FILENO, b" same\n");
+        write(to, b" same\n");
         return;
     }
-    io::write_all(STDOUT_FILENO, b" differs\n");
+    write(to, b" differs\n");
 }
 
 // The bytes are not said again.
-pub(crate) fn again_row(kind: usize, format: usize, bytes: &[u8]) {
-    say_next(bytes.len() as u64);
-    say_same(same(kind, format, bytes));
+pub(crate) fn again_row(to: Stdout, kind: usize, format: usize, bytes: &[u8]) {
+    say_next(to, bytes.len() as u64);
+    say_same(to, same(kind, format, bytes));
 }
 
 // The answer, the first bytes written, and whether all others are as they were.
-fn say_written(answer: u64, buffer: &[u8; 33024]) {
+fn say_written(to: Stdout, answer: u64, buffer: &[u8; 33024]) {
     let out = &buffer[..];
-    say_answer(answer);
+    say_answer(to, answer);
     if answer < UNFINISHED {
         let count = lesser(answer as usize, 33023);
-        say_bytes(0, &out[1..1 + lesser(count, 64)]);
-        say_kept(kept_bytes(out, count));
+        say_bytes(to, 0, &out[1..1 + lesser(count, 64)]);
+        say_kept(to, kept_bytes(out, count));
         return;
     }
-    say_kept(kept_bytes(out, 0));
+    say_kept(to, kept_bytes(out, 0));
 }
 
 // The number in eight bytes at a place, 0 where they are not there.
@@ -164,7 +166,7 @@ fn fields_in(bytes: &[u8]) -> [usize; 7] {
 }
 
 // So many deviations and coefficients stand in the bytes, before the marks.
-fn matrix_of(format: usize, bytes: &[u8], d: usize, c: usize, marks: &[u8])
+fn matrix_of(to: Stdout, format: usize, bytes: &[u8], d: usize, c: usize, marks: &[u8])
     requires { (d ≤ 64) × (c ≤ 64) }
 {
     let mut out = [CANARY_BYTE; 33024];
@@ -180,11 +182,11 @@ fn matrix_of(format: usize, bytes: &[u8], d: usize, c: usize, marks: &[u8])
         marks,
         &mut out[1..1 + room],
     );
-    say_written(answer, &out);
+    say_written(to, answer, &out);
 }
 
 // A byte each: N, Cs, Cf, Clen, Sf, Slen, the mode, the room, how many deviations, coefficients and marks; then these, a mark being a byte.
-pub(crate) fn matrix_row(format: usize, bytes: &[u8]) {
+pub(crate) fn matrix_row(to: Stdout, format: usize, bytes: &[u8]) {
     let d = lesser(byte_at(bytes, 8), 64);
     let c = lesser(byte_at(bytes, 9), 64);
     let behind = 11 + 8 * (d + c);
@@ -192,7 +194,7 @@ pub(crate) fn matrix_row(format: usize, bytes: &[u8]) {
     if bytes.len() < end {
         return;
     }
-    matrix_of(format, bytes, d, c, &bytes[behind..end]);
+    matrix_of(to, format, bytes, d, c, &bytes[behind..end]);
 }
 
 // The numbers behind the first byte.
@@ -207,7 +209,7 @@ fn numbers_in(bytes: &[u8]) -> [usize; 12] {
 }
 
 // A byte for how many sizes; then in eight bytes each these, E, the length of the array (its bytes are 7) and the room.
-pub(crate) fn array_row(bytes: &[u8]) {
+pub(crate) fn array_row(to: Stdout, bytes: &[u8]) {
     let array = [7u8; 33024];
     let mut out = [CANARY_BYTE; 33024];
     let list = numbers_in(bytes);
@@ -221,5 +223,5 @@ pub(crate) fn array_row(bytes: &[u8]) {
         &array[0..count],
         &mut out[1..1 + room],
     );
-    say_written(answer, &out);
+    say_written(to, answer, &out);
 }

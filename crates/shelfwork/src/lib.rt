@@ -1,4 +1,6 @@
 // The work of the program `shelfcheck` apart from reading and writing: what is asked of it next, and what comes of what it read and wrote.
+#![tactic(auto)]
+
 ghost use Rattle.std.specs.Prelude.{◌≡◌, ◌+◌};
 ghost use Rattle.std.specs.Int.{w64};
 ghost use Rattle.std.proofs.Common.{Fits};
@@ -10,7 +12,7 @@ use text::{Failure, write_failure};
 use verdict::{Refusal, Verdict, lesser};
 
 // What is asked: to read a chunk; to write so many bytes of the output, or to say so many of them on standard error, as the last; nothing more. A refusal is 13, for memory that is too short.
-#[derive(Drop)]
+#[derive(Clone, Copy, Drop)]
 pub enum Ask {
     Read,
     Write(usize),
@@ -29,7 +31,7 @@ pub enum Done {
 }
 
 // Where the work stands: what is asked; the report's state; the number of the first line in what is to be written; how long the chunk is, and how much of it was fed; whether the input ended.
-#[derive(Drop)]
+#[derive(Clone, Copy, Drop)]
 pub struct Work {
     pub ask: Ask,
     pub state: State,

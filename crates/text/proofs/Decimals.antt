@@ -53,7 +53,7 @@ pub length_decimal : (n : ℕ) → length (decimal n) ≡ length (digits (n / 10
 length_decimal n = rw decimal_last (length-append (digits (n / 10)) ((48 + n % 10) ∷ []))
 
 pub length_digits : (n : ℕ) → 0 < n → length (digits n) ≡ length (digits (n / 10)) + 1
-length_digits n h = rw digits_of (length_decimal n)
+length_digits n h = rw (digits_of n h) (length_decimal n)
 
 pub digits_none : length (digits 0) ≡ 0
 unfolding digits

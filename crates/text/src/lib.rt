@@ -1,4 +1,6 @@
 // The text of a report line, and of a failure, written into a lent buffer.
+#![tactic(auto)]
+
 ghost use Rattle.std.specs.Prelude.{◌≡◌, [], ◌∷◌, ◌+◌, ◌≤◌, length};
 ghost use Rattle.verdict.specs.Writing.{put};
 ghost use Rattle.outcome.specs.Letters.{letter_of};
@@ -181,7 +183,7 @@ pub fn write_line(number: u64, answer: FrameAnswer, out: &mut [u8], place: usize
 }
 
 // What failed: reading the input, or writing the report.
-#[derive(Drop)]
+#[derive(Clone, Copy, Drop)]
 pub enum Failure {
     Reading,
     Writing,
