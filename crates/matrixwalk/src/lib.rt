@@ -1,4 +1,7 @@
 // One pass over a matrix pack: what was found of a whole one, or why there is none.
+
+#![tactic(auto)]
+
 ghost use Rattle.std.specs.Prelude.{◌≡◌};
 ghost use Rattle.matrixwalk.specs.Walk.{walked_of};
 ghost use Rattle.matrixwalk.specs.Parts.{rule_in, WordsAt, PastDeviations, WalkFrom};

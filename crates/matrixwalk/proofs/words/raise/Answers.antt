@@ -1,0 +1,16 @@
+-- The next entry is raised behind those before it.
+use Rattle.matrixwalk.proofs.Blocks.{raised_none, raised_more, raised_all}
+use Rattle.matrixwalk.proofs.words.raise.Goals as goal
+
+pub loop-i-init : goal.loop-i-init
+loop-i-init c = raised_none c.args.bytes.now c.args.at c.args.most.now
+
+pub loop-i-preserved : goal.loop-i-preserved
+loop-i-preserved c =
+    let l = c.loop-i in
+    raised_more c.args.bytes.now c.args.at c.args.most.now l.i l.most l.invariant c.greater.result c.loop-i-test.true c.greater.ensures.0 c.greater.ensures.1
+
+pub returns : goal.returns
+returns c =
+    let l = c.loop-i in
+    raised_all c.args.bytes.now c.args.at c.args.most.now l.i l.most l.invariant c.loop-i-test.false
