@@ -1,4 +1,6 @@
 // Reading array packs: the verdict on a string of bytes, the numbers of a pack, and the offset of an element.
+#![tactic(auto)]
+
 ghost use Rattle.std.specs.Prelude.{◌≡◌, ◌<◌};
 ghost use Rattle.array.specs.Machine.{verdict_of};
 ghost use Rattle.array.specs.Decoded.{meaning_of};

@@ -1,4 +1,6 @@
 // Writing an array pack into a lent buffer: everything is judged before the first byte is written.
+#![tactic(auto)]
+
 ghost use Rattle.verdict.specs.Writing.{WrittenBy};
 ghost use Rattle.array.specs.Spelling.{bytes_of};
 ghost use Rattle.arraywriter.specs.Given.{meaning_given, writer_rows};

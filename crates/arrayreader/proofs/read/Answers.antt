@@ -1,0 +1,6 @@
+-- NDim, E, the start and the length that were found and the sizes that were drawn again are those of the bytes' meaning.
+use Rattle.arrayreader.proofs.Answers.{sizes_found}
+use Rattle.arrayreader.proofs.read.Goals as goal
+
+pub sizes_in-sizes-requires : goal.sizes_in-sizes-requires
+sizes_in-sizes-requires c = sizes_found c.args.bytes.now (λ i. (c.type_inv.bytes i).fits) c.in-Whole.found c.in-Whole.ensures
