@@ -1,4 +1,6 @@
 // What C calls of words: mapped coefficients scaled, each slice a pointer and a count, the answer packed into one number.
+#![tactic(auto)]
+
 ghost use Rattle.std.specs.Prelude.{◌≡◌, true, ◌≤◌, ◌/◌, ◌^◌, suc, ltb, length as count};
 ghost use Rattle.verdict.specs.Lent.{over};
 ghost use Rattle.word.specs.Many.{all_below};

@@ -21,6 +21,7 @@ fn digit(c: u8) -> u8
 }
 
 // Whether a text is pairs of digits; each character is looked at, so that the loop has no branch.
+#[tactic(auto, using(crate::proofs::DigitPairs::odd_not_hex))]
 fn is_hex(text: &[u8]) -> bool
     ensures { result ≡ is_hex text.now }
 {

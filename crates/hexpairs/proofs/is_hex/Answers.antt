@@ -1,10 +1,7 @@
--- A text of odd length is no pairs; else a digit more at each step.
+-- A digit more at each step.
 use Rattle.std.proofs.Common.{◌∙◌, sym, arith}
-use Rattle.hexpairs.proofs.DigitPairs.{odd_not_hex, even_hex, digits_more, digits_all}
+use Rattle.hexpairs.proofs.DigitPairs.{even_hex, digits_more, digits_all}
 use Rattle.hexpairs.proofs.is_hex.Goals as goal
-
-pub returns-then-text-eq1 : goal.returns-then-text-eq1
-returns-then-text-eq1 c = sym (odd_not_hex c.args.text.now c.if-text-eq1.true)
 
 pub loop-i-preserved : goal.loop-i-preserved
 loop-i-preserved c =
