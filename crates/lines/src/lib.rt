@@ -11,7 +11,7 @@ use verdict::{Reason, Refusal, lesser};
 pub const LINE: usize = 65664;
 
 // What taking characters answers: how many of the open line's are held now, more than `LINE` where it ran over, and how many were taken; or 13.
-#[derive(Drop)]
+#[derive(Clone, Copy, Drop)]
 pub enum Taking {
     Took { held: usize, count: usize },
     Refused(Refusal),

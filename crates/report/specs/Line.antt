@@ -5,7 +5,7 @@ use Rattle.outcome.specs.declared.Kind.TheVariants.{Unknown}
 use Rattle.outcome.specs.declared.FrameAnswer.{FrameAnswer}
 use Rattle.outcome.specs.Refusing.{refusing}
 use Rattle.frame.specs.Frame.{answer_of}
-use Rattle.hex.specs.Hex.{is_hex, hex_of}
+use Rattle.hexpairs.specs.Hex.{is_hex, hex_of}
 use Rattle.lines.specs.Taking.{longest_line}
 
 -- the answer to a line: 25 more characters than the longest, 20 another character or an odd count, then the frame's

@@ -7,7 +7,7 @@ ghost use Rattle.report.specs.Feeding.{held_answer, FedBy, Finished};
 ghost use Rattle.report.specs.Passing.{Closed, Goes, Onward, held_in, piece_in, count_in};
 
 use frame::examine::examine;
-use hex::decode;
+use hexpairs::decode;
 use lines::{LINE, Taking, take_piece};
 use outcome::{FrameAnswer, Kind, Outcome, refuse};
 use text::write_line;
