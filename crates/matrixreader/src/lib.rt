@@ -1,4 +1,7 @@
 // Reading matrix packs: the verdict on a string of bytes, and the fields of a pack.
+
+#![tactic(auto)]
+
 ghost use Rattle.std.specs.Prelude.{◌≡◌};
 ghost use Rattle.matrix.specs.Machine.{verdict_of};
 ghost use Rattle.matrixreader.specs.Reading.{matrix_read_of};
