@@ -18,7 +18,7 @@ const MOST: u32 = 32768;
 const SIZES: usize = 1;
 
 // The sizes of the dimensions, 0 past the last.
-#[derive(Drop)]
+#[derive(Clone, Copy, Drop)]
 pub struct Sizes {
     pub one: usize,
     pub two: usize,
@@ -31,7 +31,7 @@ pub struct Sizes {
 }
 
 // What reading an array pack answers: NDim, the sizes, E, the place of the array's first byte and the pack's length, or the verdict where it is not complete.
-#[derive(Drop)]
+#[derive(Clone, Copy, Drop)]
 pub enum ArrayRead {
     Array {
         dims: usize,

@@ -1,4 +1,6 @@
 // What C calls of array packs: each answer packed into one number, each slice a pointer and a count.
+#![tactic(auto)]
+
 ghost use Rattle.std.specs.Prelude.{◌≡◌};
 ghost use Rattle.verdict.specs.Numbers.{packed_of};
 ghost use Rattle.array.specs.Machine.{verdict_of};
