@@ -1,5 +1,5 @@
 -- A whole pack is expanded, and any other verdict is passed on.
-use Rattle.std.proofs.Common.{◌∙◌, sym, subst}
+use Rattle.std.proofs.Common.{sym, subst}
 use Rattle.verdict.specs.declared.Verdict.{Verdict}
 use Rattle.verdict.specs.declared.Verdict.TheVariants.{Complete}
 use Rattle.matrixwalk.specs.declared.Walked.TheVariants.{Whole}

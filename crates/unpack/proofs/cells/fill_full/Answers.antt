@@ -1,5 +1,5 @@
 -- The pairs of the next row, then of all.
-use Rattle.std.proofs.Common.{◌≡◌, ℕ, ◌+◌, ◌-◌, ◌*◌, ◌≤◌, ◌<◌, ◌∙◌, ap, subst, List, length as size, arith}
+use Rattle.std.proofs.Common.{◌≡◌, ℕ, ◌+◌, ◌-◌, ◌*◌, ◌<◌, ◌∙◌, ap, subst, List, arith}
 use Rattle.matrixwalk.specs.declared.Found.{Found}
 use Rattle.matrix.specs.Order.{pair_at}
 use Rattle.matrix.specs.Expanded.{cell_word}
@@ -37,8 +37,7 @@ loop-row-preserved c =
     let l = c.loop-row in
     let n = a.found.fields.n in
     let taken = c.loop-row-test.true in
-    let next : pair_at n l.row n ≡ pair_at n (l.row + 1) (l.row + 1 + 1) = next_row n l.row taken ∙ ap (pair_at n (l.row + 1)) (omega arith) in
-    (
+    let next : pair_at n l.row n ≡ pair_at n (l.row + 1) (l.row + 1 + 1) = next_row n l.row taken ∙ ap (pair_at n (l.row + 1)) (omega arith) in (
       omega arith,
       (
         row_ends a.bytes.now a.found a.length a.words.now c.requires l.row l.place taken l.invariant.1.0 ∙ ap (coefficient_at (meaning_found a.bytes.now a.found) a.found) next,

@@ -11,7 +11,7 @@ use Rattle.matrix.proofs.Expanded.{word_upper, word_either}
 use Rattle.unpack.specs.Found.{meaning_found, coefficient_at}
 use Rattle.unpack.specs.Cells.{Cells, of_row, FullRowFrom}
 use Rattle.unpack.proofs.Filling.{small, full_within, full_moved, full_word}
-use Rattle.unpack.proofs.Rows.{cell_within, row_none, cells_pair}
+use Rattle.unpack.proofs.Rows.{cell_within, cells_pair}
 use Rattle.unpack.proofs.cells.fill_full_row.Invariants.{Stand}
 use Rattle.unpack.proofs.cells.fill_full_row.Goals as goal
 

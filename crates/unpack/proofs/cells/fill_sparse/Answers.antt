@@ -15,8 +15,7 @@ loop-row-preserved c =
     let further : l.row + 2 ≡ l.row + 1 + 1 = omega arith in
     let filled = l.invariant.1.1 in
     let r = c.fill_sparse_row-next in
-    let more = r.ensures.grid in
-    (
+    let more = r.ensures.grid in (
       omega (arith, c.loop-row-test.true),
       (
         subst (λ (k : ℕ). At (meaning_found a.bytes.now a.found) a.found (l.row + 1) k r.result) further r.ensures.at,

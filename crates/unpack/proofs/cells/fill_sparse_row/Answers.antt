@@ -1,5 +1,5 @@
 -- The next pair of the row, then all of them, and where the coefficients have got to.
-use Rattle.std.proofs.Common.{◌≡◌, ℕ, ◌+◌, ◌*◌, ◌≤◌, ◌<◌, ◌∙◌, refl, ap, sym, subst, List, take, get_or, arith}
+use Rattle.std.proofs.Common.{◌≡◌, ℕ, ◌+◌, ◌*◌, ◌<◌, ◌∙◌, refl, ap, sym, subst, List, take, get_or, arith}
 use Rattle.matrixwalk.specs.declared.Found.{Found}
 use Rattle.matrix.specs.Meaning.{sum, pairs}
 use Rattle.matrix.specs.Order.{pair_at}

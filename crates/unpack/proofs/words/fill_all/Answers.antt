@@ -18,8 +18,7 @@ returns c =
     let a = c.args in
     let bounds = small a.bytes.now a.found c.requires.0 in
     let number = c.pairs_of-number.result in
-    let e : number ≡ pairs a.found.fields.n = pairs_counted a.found.fields.n number bounds.size_most c.pairs_of-number.ensures in
-    (
+    let e : number ≡ pairs a.found.fields.n = pairs_counted a.found.fields.n number bounds.size_most c.pairs_of-number.ensures in (
       over_same _ _ a.coefficients.now c.fill_words.new.out c.fill_words.ensures (coefficients_here a.bytes.now a.found c.requires.0 c.requires.1.1.1 number e),
       over_same _ _ a.marks.now c.fill_marks.new.marks c.fill_marks.ensures (marks_here a.bytes.now a.found c.requires.0 c.requires.1.1.1 number e c.mark_of.result c.mark_of.ensures),
     )

@@ -18,8 +18,7 @@ word_or-requires c =
     let w = c.requires.0 in
     let bounds = small a.bytes.now a.found w in
     let count : c.pairs_of-count.result ≡ pairs a.found.fields.n = pairs_counted a.found.fields.n c.pairs_of-count.result bounds.size_most c.pairs_of-count.ensures in
-    let at : l.place ≡ coefficient_at (meaning_found a.bytes.now a.found) a.found l.pair = l.invariant.1.0 ∙ coefficient_place_lem a.bytes.now a.found w l.pair in
-    (
+    let at : l.place ≡ coefficient_at (meaning_found a.bytes.now a.found) a.found l.pair = l.invariant.1.0 ∙ coefficient_place_lem a.bytes.now a.found w l.pair in (
       omega (arith, bounds.clen_few, c.requires.1.0),
       coefficient_within a.bytes.now a.found w l.pair l.place c.mark_at-mark.result (omega (arith, c.loop-pair-test.true, count)) at c.mark_at-mark.ensures a.length c.requires.1.0,
     )
@@ -50,8 +49,7 @@ loop-pair-preserved c =
     let count : c.pairs_of-count.result ≡ pairs found.fields.n = pairs_counted found.fields.n c.pairs_of-count.result bounds.size_most c.pairs_of-count.ensures in
     let b : l.pair < pairs found.fields.n = omega (arith, c.loop-pair-test.true, count) in
     let at : l.place ≡ coefficient_at m found l.pair = l.invariant.1.0 ∙ coefficient_place_lem bytes found p.0 l.pair in
-    let is = coefficient_is bytes found p.0 l.pair l.place mark.result b at mark.ensures a.length p.1.0 none.result c.word_or.result none.ensures c.word_or.ensures in
-    (
+    let is = coefficient_is bytes found p.0 l.pair l.place mark.result b at mark.ensures a.length p.1.0 none.result c.word_or.result none.ensures c.word_or.ensures in (
       omega arith,
       (
         omega (arith, l.invariant.1.0, coefficient_next bytes found p.0 l.pair l.place mark.result b at mark.ensures a.length p.1.0),
