@@ -1,4 +1,6 @@
 // Writing a matrix pack into a lent buffer: everything is checked before the first byte is written.
+#![tactic(auto)]
+
 ghost use Rattle.verdict.specs.Writing.{WrittenBy};
 ghost use Rattle.matrix.specs.Spelling.{bytes_of};
 ghost use Rattle.matrixcheck.specs.Given.{meaning_given};
