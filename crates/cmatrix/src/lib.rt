@@ -1,5 +1,8 @@
 // What C calls of matrix packs: each answer packed into one number, each slice a pointer and a count. The number `format` states what Mode 1's
 // deviations are, 0 IEEE or 1 mapped; any other is 14.
+
+#![tactic(auto)]
+
 ghost use Rattle.std.specs.Prelude.{◌≡◌, ltb};
 ghost use Rattle.verdict.specs.Numbers.{packed_of};
 ghost use Rattle.listing.specs.Packed.{PackedBy};

@@ -1,4 +1,7 @@
 // Unpacking and expanding a matrix pack into lent lists, which change only where the answer is complete.
+
+#![tactic(auto)]
+
 ghost use Rattle.unpack.specs.Unpacking.{UnpackedBy, ExpandedBy};
 
 use crate::cells::expand_found;
