@@ -16,16 +16,14 @@ use verdict::packed;
 mod answers;
 
 // The verdict on a string of bytes as an array pack.
-#[unsafe(no_mangle)]
-pub extern "C" fn array_verdict(bytes: &[u8]) -> u64
+pub fn array_verdict(bytes: &[u8]) -> u64
     ensures { result ≡ packed_of (verdict_of bytes.now) }
 {
     packed(arrayreader::verdict(bytes))
 }
 
 // NDim, eight sizes, E and the start of an array pack into eleven entries.
-#[unsafe(no_mangle)]
-pub extern "C" fn array_fields(bytes: &[u8], fields: &mut [usize]) -> u64
+pub fn array_fields(bytes: &[u8], fields: &mut [usize]) -> u64
     ensures { PackedBy (λ answer. NumbersBy bytes.now fields.old answer fields.new) result }
 {
     let answer = read(bytes);
@@ -34,16 +32,14 @@ pub extern "C" fn array_fields(bytes: &[u8], fields: &mut [usize]) -> u64
 }
 
 // The offset of the element at these indices from the start of the array.
-#[unsafe(no_mangle)]
-pub extern "C" fn array_address(bytes: &[u8], indices: &[usize]) -> u64
+pub fn array_address(bytes: &[u8], indices: &[usize]) -> u64
     ensures { result ≡ packed_of (addressed_of bytes.now indices.now) }
 {
     packed(answers::offset_said(address(bytes, indices)))
 }
 
 // The array pack of these sizes, this element size and this array.
-#[unsafe(no_mangle)]
-pub extern "C" fn array_write(sizes: &[usize], element: usize, array: &[u8], out: &mut [u8]) -> u64
+pub fn array_write(sizes: &[usize], element: usize, array: &[u8], out: &mut [u8]) -> u64
     ensures { PackedBy (λ answer. ArrayWritten sizes.now element array.now out.old answer out.new) result }
 {
     packed(arraywriter::write(sizes, element, array, out))

@@ -21,8 +21,7 @@ fn said(outcome: Outcome) -> Verdict
 }
 
 // The answer to a frame's bytes, and the letter of its kind, which is told whatever the answer is.
-#[unsafe(no_mangle)]
-pub extern "C" fn frame_verdict(bytes: &[u8], kind: &mut u8) -> u64
+pub fn frame_verdict(bytes: &[u8], kind: &mut u8) -> u64
     ensures { FrameSaid bytes.now result kind.new }
 {
     let answer = examine(bytes);

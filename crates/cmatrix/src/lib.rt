@@ -35,8 +35,7 @@ fn told_by(format: usize) -> Told
 }
 
 // The verdict on a string of bytes as a matrix pack.
-#[unsafe(no_mangle)]
-pub extern "C" fn matrix_verdict(bytes: &[u8], format: usize) -> u64
+pub fn matrix_verdict(bytes: &[u8], format: usize) -> u64
     ensures { result ≡ packed_of (verdict_by format bytes.now) }
 {
     if no_format(format) {
@@ -46,8 +45,7 @@ pub extern "C" fn matrix_verdict(bytes: &[u8], format: usize) -> u64
 }
 
 // N, Cs, Cf, Clen, Sf, Slen and the mode of a matrix pack into seven entries.
-#[unsafe(no_mangle)]
-pub extern "C" fn matrix_fields(bytes: &[u8], format: usize, fields: &mut [usize]) -> u64
+pub fn matrix_fields(bytes: &[u8], format: usize, fields: &mut [usize]) -> u64
     ensures { PackedBy (λ answer. FieldsBy format bytes.now fields.old answer fields.new) result }
 {
     if no_format(format) {
@@ -59,8 +57,7 @@ pub extern "C" fn matrix_fields(bytes: &[u8], format: usize, fields: &mut [usize
 }
 
 // N deviation words, M coefficient words and M marks of a matrix pack.
-#[unsafe(no_mangle)]
-pub extern "C" fn matrix_unpack(
+pub fn matrix_unpack(
     bytes: &[u8],
     format: usize,
     deviations: &mut [u64],
@@ -76,13 +73,7 @@ pub extern "C" fn matrix_unpack(
 }
 
 // N × N words and marks of a matrix pack, by rows.
-#[unsafe(no_mangle)]
-pub extern "C" fn matrix_expand(
-    bytes: &[u8],
-    format: usize,
-    words: &mut [u64],
-    marks: &mut [u8],
-) -> u64
+pub fn matrix_expand(bytes: &[u8], format: usize, words: &mut [u64], marks: &mut [u8]) -> u64
     ensures { PackedBy (λ answer. ExpandedUnder format bytes.now words.old marks.old answer words.new marks.new) result }
 {
     if no_format(format) {
@@ -92,8 +83,7 @@ pub extern "C" fn matrix_expand(
 }
 
 // The matrix pack of seven fields, deviations, coefficients and marks.
-#[unsafe(no_mangle)]
-pub extern "C" fn matrix_write(
+pub fn matrix_write(
     fields: &[usize],
     format: usize,
     deviations: &[u64],

@@ -74,8 +74,7 @@ fn scale_each(words: &[u64], length: usize, scaled: &mut [i64])
 }
 
 // Mapped coefficients of this length scaled into a lent list.
-#[unsafe(no_mangle)]
-pub extern "C" fn matrix_scale(words: &[u64], length: usize, scaled: &mut [i64]) -> u64
+pub fn matrix_scale(words: &[u64], length: usize, scaled: &mut [i64]) -> u64
     ensures { PackedBy (λ answer. ScaledInto words.now length scaled.old answer scaled.new) result }
 {
     if (length == 0) | (8 < length) {

@@ -16,8 +16,8 @@ use Rattle.outcome.specs.declared.FrameAnswer.{FrameAnswer}
 use Rattle.frame.specs.Frame.{answer_of}
 use Rattle.outcome.specs.Refusing.{refusing}
 use Rattle.theorems.proofs.Framed.{refusing_other, frame_short, okay_frames}
-use Rattle.hex.specs.Hex.{is_hex, hex_of, spelling}
-use Rattle.hex.proofs.Spelling.{spelling_hex, hex_spelling, length_spelling, spelling_back, hex_bytes}
+use Rattle.hexpairs.specs.Hex.{is_hex, hex_of, spelling}
+use Rattle.hexpairs.proofs.Spelling.{spelling_hex, hex_spelling, length_spelling, spelling_back, hex_bytes}
 use Rattle.text.specs.Text.{text_of}
 use Rattle.lines.specs.Taking.{longest_line}
 use Rattle.report.specs.Line.{line_answer, next_number}

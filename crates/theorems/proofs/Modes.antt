@@ -8,7 +8,6 @@ use lib.ListN.{get_or, replicate}
 use Rattle.verdict.specs.declared.Verdict.{Verdict}
 use Rattle.verdict.specs.Machine.{on, bad, shift, run, follow}
 use Rattle.verdict.specs.Rows.{Row, judged}
-use Rattle.verdict.proofs.Cases.{either}
 use Rattle.matrix.specs.declared.Told.{Told}
 use Rattle.matrix.specs.Meaning.{Matrix}
 use Rattle.matrix.specs.Header.{control, first, single, vector_bytes}

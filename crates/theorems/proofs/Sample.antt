@@ -16,7 +16,7 @@ use Rattle.matrix.specs.Machine.{enter, run_bytes}
 use Rattle.outcome.specs.declared.Kind.TheVariants.{Matrix, Array, Unknown}
 use Rattle.frame.specs.Frame.{matrix_key, array_key, same, kind_of, answer_of}
 use Rattle.outcome.specs.Refusing.{refusing}
-use Rattle.hex.specs.Hex.{is_hex, hex_of}
+use Rattle.hexpairs.specs.Hex.{is_hex, hex_of}
 use Rattle.text.specs.Text.{decimal_in, decimal}
 use Rattle.report.specs.Line.{line_answer}
 use Rattle.theorems.specs.Report.{report_of, closed, answers, Unclosed}

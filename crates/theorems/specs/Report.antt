@@ -4,7 +4,7 @@ use Rattle.verdict.specs.Says.{Bytes}
 use Rattle.outcome.specs.declared.Kind.{Kind}
 use Rattle.outcome.specs.declared.Kind.TheVariants.{Unknown}
 use Rattle.outcome.specs.declared.Outcome.TheVariants.{Open}
-use Rattle.hex.specs.Hex.{spelling}
+use Rattle.hexpairs.specs.Hex.{spelling}
 use Rattle.text.specs.Text.{text_of}
 use Rattle.report.specs.Line.{line_answer, next_number}
 use Rattle.theorems.specs.Framed.{FrameOf}
