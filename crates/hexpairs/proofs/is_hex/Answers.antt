@@ -12,4 +12,4 @@ pub returns : goal.returns
 returns c =
     let l = c.loop-i in
     let text = c.args.text.now in
-    sym (digits_all text l.i l.good c.loop-i-test.false) ∙ l.invariant.1 ∙ sym (even_hex text (omega (arith, c.if-text-eq1.false)))
+    sym (digits_all text l.i l.good c.loop-i-test.false) ∙ l.invariant.1 ∙ sym (even_hex text (omega arith))
