@@ -140,8 +140,8 @@ module _ (bytes : List ℕ) (found : Found) (whole : Whole bytes found) where
     -- so many columns on in a row, the place is as many words on
     pub full_moved : (size : ℕ) → size ≡ f.clen → (row column : ℕ) → row < column → pair_at f.n row column ≤ pairs f.n → (place₀ place : ℕ) → place₀ ≡ coefficient_at (m) found (pair_at f.n row (row + 1))
         → place ≡ place₀ + (column - (row + 1)) * size → place ≡ coefficient_at (m) found (pair_at f.n row column)
-    full_moved size e row column h most place₀ place first Moved =
+    full_moved size e row column h most place₀ place first moved =
         let k = column - (row + 1) in
         let on : pair_at f.n row column ≡ pair_at f.n row (row + 1) + (column - (row + 1)) = omega arith in
         let times : (pair_at f.n row (row + 1) + k) * f.clen ≡ pair_at f.n row (row + 1) * f.clen + k * f.clen = omega arith in
-        Moved ∙ rw (e, first, on, full_place (pair_at f.n row (row + 1)) (omega arith), full_place (pair_at f.n row (row + 1) + k) (omega arith), times) (omega arith)
+        moved ∙ rw (e, first, on, full_place (pair_at f.n row (row + 1)) (omega arith), full_place (pair_at f.n row (row + 1) + k) (omega arith), times) (omega arith)
