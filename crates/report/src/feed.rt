@@ -187,6 +187,7 @@ pub fn feed(state: State, chunk: &[u8], line: &mut [u8], out: &mut [u8]) -> Feed
 }
 
 // Behind the last chunk: the report line of an open last line, if there is one.
+#[tactic(auto, using(crate::proofs::Closing::finished_none))]
 pub fn finish(state: State, out: &mut [u8]) -> Verdict
     ensures { Finished state out.old result out.new }
 {
