@@ -9,6 +9,8 @@ use lib.ListN.{length}
 use Rattle.verdict.specs.Machine.{Accepts}
 use Rattle.verdict.specs.Says.{Bytes}
 use Rattle.verdict.proofs.Judging.{Reaches}
+use Rattle.std.specs.Prelude.{Result}
+use Rattle.verdict.specs.declared.Reason.{Reason}
 use Rattle.number.specs.declared.Effect.{Effect}
 use Rattle.number.specs.Octets.{high, octets, numbers}
 use Rattle.number.proofs.Octet.{Does, ends, goes, fails, does, effect_ends, effect_goes}
@@ -25,12 +27,12 @@ use Rattle.array.proofs.Keeping.{limit_product}
 -- a last octet leads behind its number
 ends_accepted : (field : Field) (v o : ℕ) (t : List ℕ) → o < 128 → (positive field ≡ true → 0 < v * 128 + o) → v * 128 + o ≤ limit field → Reaches move (behind field (v * 128 + o)) t → Accepts move (number field v) (o ∷ t)
 unfolding Accepts
-ends_accepted field v o t h p l x = (omega arith, subst (λ (e : Effect). Reaches move (behind_effect field e) t) (sym (effect_ends o v (positive field) (limit field) h p l)) x)
+ends_accepted field v o t h p l x = (omega arith, subst (λ (e : Result Effect Reason). Reaches move (behind_effect field e) t) (sym (effect_ends o v (positive field) (limit field) h p l)) x)
 
 -- any other octet leads on with it
 more_accepted : (field : Field) (v d : ℕ) (t : List ℕ) → d < 128 → 0 < v * 128 + d → (v * 128 + d) * 128 ≤ limit field → Accepts move (number field (v * 128 + d)) t → Accepts move (number field v) ((128 + d) ∷ t)
 unfolding Accepts
-more_accepted field v d t h p l x = (omega arith, subst (λ (e : Effect). Reaches move (behind_effect field e) t) (sym (effect_goes d v (positive field) (limit field) p l)) x)
+more_accepted field v d t h p l x = (omega arith, subst (λ (e : Result Effect Reason). Reaches move (behind_effect field e) t) (sym (effect_goes d v (positive field) (limit field) p l)) x)
 
 begun_accepted : (field : Field) {v : ℕ} → Sevens v → (t : List ℕ) → v * 128 ≤ limit field → Accepts move (number field v) t → Accepts move (number field 0) (high v ++ t)
 begun_accepted field nothing t l a = rw high_none a
@@ -59,7 +61,7 @@ unfolding Accepts
 number_taken field [] v a = absurd a
 number_taken field (o ∷ w) v a = go (does o v (positive field) (limit field)) a.1 (λ u x. number_taken field w u x)
   where
-    go : {e : Effect} → Does o v (positive field) (limit field) e → Reaches move (behind_effect field e) w → ((u : ℕ) → Accepts move (number field u) w → Taken field u w) → Taken field v (o ∷ w)
+    go : {e : Result Effect Reason} → Does o v (positive field) (limit field) e → Reaches move (behind_effect field e) w → ((u : ℕ) → Accepts move (number field u) w → Taken field u w) → Taken field v (o ∷ w)
     go (ends l p h) x ih =
         record {
           value = v * 128 + o;

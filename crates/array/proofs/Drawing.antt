@@ -6,15 +6,18 @@ use native.Mathlib.Omega.{arith}
 use borrow.Author.Tests.{ltb-true, ltb-false}
 use lib.Dec.{ltb}
 use lib.ListN.{length, get_or, drop}
+use Rattle.std.specs.Prelude.{Result, Ok, Err}
+use Rattle.verdict.specs.declared.Reason.{Reason}
 use Rattle.verdict.specs.declared.Verdict.{Verdict}
 use Rattle.verdict.specs.declared.Verdict.TheVariants.{Complete, Unfinished, Refused}
 use Rattle.verdict.specs.Reaching.{led}
 use Rattle.verdict.proofs.Cases.{either}
 use Rattle.verdict.proofs.Reaching.{reach_cut, reach_step}
 use Rattle.number.specs.declared.Effect.{Effect}
-use Rattle.number.specs.declared.Effect.TheVariants.{Ends, GoesOn, Refused as EffectRefused}
-use Rattle.number.specs.declared.Drawn.{Drawn}
-use Rattle.number.specs.declared.Drawn.TheVariants.{Number, Cut, Refused as DrawnRefused}
+use Rattle.number.specs.declared.Effect.TheVariants.{Ends, GoesOn}
+use Rattle.number.specs.declared.Number.{Number}
+use Rattle.number.specs.declared.Undrawn.{Undrawn}
+use Rattle.number.specs.declared.Undrawn.TheVariants.{Cut, Refused as UndrawnRefused}
 use Rattle.number.specs.Octet.{effect_of}
 use Rattle.number.specs.Draw.{after, draw_on, draw_at}
 use Rattle.number.proofs.Drawing.{draw_past_end, draw_octet}
@@ -23,19 +26,19 @@ use Rattle.array.specs.Machine.{reason_in, number, body, enter, behind, behind_e
 
 module _ (bytes : List ℕ) where
   -- the verdict by what drawing a field's number found
-  abbrev pub drawn_verdict : Field → Drawn → Verdict
-  drawn_verdict field (Number value next) = verdict_behind (behind field value) bytes next
-  drawn_verdict field (Cut value) = Unfinished (least (number field value))
-  drawn_verdict field (DrawnRefused r) = Refused (record { reason = reason_in field r.reason; place = r.place })
+  abbrev pub drawn_verdict : Field → Result Number Undrawn → Verdict
+  drawn_verdict field (Ok drawn) = verdict_behind (behind field drawn.value) bytes drawn.next
+  drawn_verdict field (Err (Cut value)) = Unfinished (least (number field value))
+  drawn_verdict field (Err (UndrawnRefused r)) = Refused (record { reason = reason_in field r.reason; place = r.place })
 
-  abbrev found : Field → ℕ → ℕ → Drawn
+  abbrev found : Field → ℕ → ℕ → Result Number Undrawn
   found field value at = draw_on (drop at bytes) at value (positive field) (limit field)
 
-  octet_drawn : (field : Field) (at : ℕ) (e : Effect) → ((v : ℕ) → verdict_at (number field v) bytes (at + 1) ≡ drawn_verdict field (found field v (at + 1))) → verdict_behind (behind_effect field e) bytes (at + 1) ≡ drawn_verdict field (after e at (λ v. found field v (at + 1)))
+  octet_drawn : (field : Field) (at : ℕ) (e : Result Effect Reason) → ((v : ℕ) → verdict_at (number field v) bytes (at + 1) ≡ drawn_verdict field (found field v (at + 1))) → verdict_behind (behind_effect field e) bytes (at + 1) ≡ drawn_verdict field (after e at (λ v. found field v (at + 1)))
   unfolding led
-  octet_drawn field at (Ends v) later = refl
-  octet_drawn field at (GoesOn v) later = later v
-  octet_drawn field at (EffectRefused r) later = ap (λ (p : ℕ). Refused (record { reason = reason_in field r; place = p })) (omega arith)
+  octet_drawn field at (Ok (Ends v)) later = refl
+  octet_drawn field at (Ok (GoesOn v)) later = later v
+  octet_drawn field at (Err r) later = ap (λ (p : ℕ). Refused (record { reason = reason_in field r; place = p })) (omega arith)
 
   cut_drawn : (field : Field) (value at : ℕ) → length bytes ≤ at → verdict_at (number field value) bytes at ≡ drawn_verdict field (found field value at)
   cut_drawn field value at h = reach_cut move least bytes (number field value) at h ∙ sym (ap (drawn_verdict field) (draw_past_end bytes at value (positive field) (limit field) h))
@@ -52,7 +55,7 @@ module _ (bytes : List ℕ) where
       (λ t. cut_drawn field value at (ltb-false at (length bytes) t))
 
   -- from before a field's first octet
-  pub number_drawn : (field : Field) (place : ℕ) (drawn : Drawn) → drawn ≡ draw_at bytes place (positive field) (limit field) → verdict_at (number field 0) bytes place ≡ drawn_verdict field drawn
+  pub number_drawn : (field : Field) (place : ℕ) (drawn : Result Number Undrawn) → drawn ≡ draw_at bytes place (positive field) (limit field) → verdict_at (number field 0) bytes place ≡ drawn_verdict field drawn
   number_drawn field place drawn e = begun_drawn field (length bytes) 0 place (omega arith) ∙ ap (drawn_verdict field) (sym e)
 
   -- the array: all of it, or what is missing

@@ -6,6 +6,8 @@ use native.Mathlib.Nat.{mul-le-mul_left, le-div_iff_mul-le, mul_comm, mul-pos, a
 use native.Mathlib.Omega.{arith}
 use lib.Dec.{lit<, lit≤}
 use Rattle.verdict.specs.Machine.{on, Falls, Nears, Laws}
+use Rattle.std.specs.Prelude.{Result}
+use Rattle.verdict.specs.declared.Reason.{Reason}
 use Rattle.number.specs.declared.Effect.{Effect}
 use Rattle.number.proofs.Octet.{Does, ends, goes, fails, does, effect_ends}
 use Rattle.array.specs.Meaning.{most}
@@ -39,7 +41,7 @@ more_falls (processing total) value x g l v = ((g, l), omega arith)
 falls_number : (field : Field) (value octet : ℕ) → Good (number field value) → Falls least Good (least (number field value)) (move (number field value) octet)
 falls_number field value octet g = go (does octet value (positive field) (limit field))
   where
-    go : {e : Effect} → Does octet value (positive field) (limit field) e → Falls least Good (least (number field value)) (behind_effect field e)
+    go : {e : Result Effect Reason} → Does octet value (positive field) (limit field) e → Falls least Good (least (number field value)) (behind_effect field e)
     go (ends l p h) = behind_falls field value (value * 128 + octet) g.0 h p (omega arith)
     go (goes d e p h) = more_falls field value (value * 128 + d) g.0 h (omega arith)
     go fails = tt
@@ -54,7 +56,7 @@ Near s = (b : ℕ) × (b < 256) × Nears least (least s) (move s b)
 
 ends_near : (field : Field) (value octet : ℕ) → octet < 128 → (positive field ≡ true → 0 < value * 128 + octet) → value * 128 + octet ≤ limit field → Nears least (least (number field value)) (behind field (value * 128 + octet)) → Near (number field value)
 ends_near field value octet h p l n =
-    (octet, omega arith, subst (λ (e : Effect). Nears least (least (number field value)) (behind_effect field e)) (sym (effect_ends octet value (positive field) (limit field) h p l)) n)
+    (octet, omega arith, subst (λ (e : Result Effect Reason). Nears least (least (number field value)) (behind_effect field e)) (sym (effect_ends octet value (positive field) (limit field) h p l)) n)
 
 size_near : (more product : ℕ) → Nears least (more + 3) (behind_size more product)
 size_near zero product = omega arith

@@ -15,8 +15,9 @@ use Rattle.verdict.specs.Says.{OneReason}
 use Rattle.verdict.specs.Machine.{Move, on, done, bad, Moved, Accepts, Blames}
 use Rattle.verdict.proofs.Cases.{by_test, either}
 use Rattle.verdict.proofs.Judging.{Kept, Leads, Reaches, one_blamed}
+use Rattle.std.specs.Prelude.{Result, Ok, Err}
 use Rattle.number.specs.declared.Effect.{Effect}
-use Rattle.number.specs.declared.Effect.TheVariants.{Ends, GoesOn, Refused}
+use Rattle.number.specs.declared.Effect.TheVariants.{Ends, GoesOn}
 use Rattle.number.specs.Octet.{ended, gone_on, effect_of}
 use Rattle.array.specs.Meaning.{product}
 use Rattle.array.specs.Table.{Field, dims, size, element, processing, limit, positive, over, octet_rows, OctetsRead, with_octet, Part, field, array, part_behind_sizes, part_behind, rows_in, rows_behind, rows_of, Why}
@@ -74,10 +75,10 @@ module _ (f : Field) (value octet : ℕ) where
   more_rows h = rw (ne_eqb octet 0 (λ e. omega arith), and-false (eqb value 0), and-false (positive f), zero_padded value octet h, le-ltb octet 128 h)
 
   -- what an octet's effect says: it breaks no rule of the table, and the value behind it; or the reason of the first rule broken
-  abbrev Ruled : List Row → Effect → Type 0
-  Ruled rows (Ends v) = Kept rows × ((octet < 128) × ((v ≡ value * 128 + octet) × (positive f ≡ true → 0 < v)))
-  Ruled rows (GoesOn v) = Kept rows × ((128 ≤ octet) × (v ≡ value * 128 + (octet - 128)))
-  Ruled rows (Refused reason) = Blamed rows (reason_in f reason)
+  abbrev Ruled : List Row → Result Effect Reason → Type 0
+  Ruled rows (Ok (Ends v)) = Kept rows × ((octet < 128) × ((v ≡ value * 128 + octet) × (positive f ≡ true → 0 < v)))
+  Ruled rows (Ok (GoesOn v)) = Kept rows × ((128 ≤ octet) × (v ≡ value * 128 + (octet - 128)))
+  Ruled rows (Err reason) = Blamed rows (reason_in f reason)
 
   last_ruled : octet < 128 → Ruled (octet_rows f value octet) (ended (positive f) (limit f) (value * 128 + octet))
   unfolding Blamed
@@ -185,10 +186,10 @@ octet_follows begun f octet b =
     subst (λ (part : Part). Follows (rows_in part begun.value octet) (with_octet begun octet) (move (number f begun.value) octet)) (sym (before_part b))
     (go (effect_of octet begun.value (positive f) (limit f)) (ruled f begun.value octet))
   where
-    go : (e : Effect) → Ruled f begun.value octet (octet_rows f begun.value octet) e → Follows (octet_rows f begun.value octet) (with_octet begun octet) (behind_effect f e)
-    go (Ends v) r = led_follows (octet_rows f begun.value octet) (with_octet begun octet) (behind f v) r.0 (rw (lt-ltb octet 128 r.1.0, ← r.1.1.0) (number_led b v r.1.1.1))
-    go (GoesOn v) r = (r.0, rw (le-ltb octet 128 r.1.0) (b, sym r.1.1))
-    go (Refused reason) r = r
+    go : (e : Result Effect Reason) → Ruled f begun.value octet (octet_rows f begun.value octet) e → Follows (octet_rows f begun.value octet) (with_octet begun octet) (behind_effect f e)
+    go (Ok (Ends v)) r = led_follows (octet_rows f begun.value octet) (with_octet begun octet) (behind f v) r.0 (rw (lt-ltb octet 128 r.1.0, ← r.1.1.0) (number_led b v r.1.1.1))
+    go (Ok (GoesOn v)) r = (r.0, rw (le-ltb octet 128 r.1.0) (b, sym r.1.1))
+    go (Err reason) r = r
 
 body_follows : (begun : OctetsRead) (more octet : ℕ) → Whole begun.numbers → Follows (rows_next begun octet) (with_octet begun octet) (enter more)
 body_follows begun more octet w =

@@ -1,5 +1,5 @@
 -- The machine of array packs: what each byte does, the fewest bytes that are missing in each state, and the verdict of its run.
-use Rattle.std.specs.Prelude.{ℕ, zero, suc, ◌+◌, ◌-◌, ◌*◌, ◌≤◌, ◌<◌, cond, List, eqb}
+use Rattle.std.specs.Prelude.{ℕ, zero, suc, ◌+◌, ◌-◌, ◌*◌, ◌≤◌, ◌<◌, cond, List, Result, Ok, Err, eqb}
 use Rattle.verdict.specs.declared.Reason.{Reason}
 use Rattle.verdict.specs.declared.Reason.TheVariants.{Processing}
 use Rattle.verdict.specs.declared.Verdict.{Verdict}
@@ -7,7 +7,7 @@ use Rattle.verdict.specs.Numbers.{number_of}
 use Rattle.verdict.specs.Machine.{Move, on, done, bad, run}
 use Rattle.verdict.specs.Reaching.{reach, led}
 use Rattle.number.specs.declared.Effect.{Effect}
-use Rattle.number.specs.declared.Effect.TheVariants.{Ends, GoesOn, Refused}
+use Rattle.number.specs.declared.Effect.TheVariants.{Ends, GoesOn}
 use Rattle.number.specs.Octet.{effect_of}
 use Rattle.array.specs.Meaning.{most}
 use Rattle.array.specs.Table.{Field, dims, size, element, processing, limit, positive}
@@ -42,10 +42,10 @@ behind (element product) value = on (number (processing (product * value)) 0)
 behind (processing total) value = enter total
 
 -- an octet ends its field's number, goes on with it, or is refused
-abbrev pub behind_effect : Field → Effect → Move State
-behind_effect field (Ends value) = behind field value
-behind_effect field (GoesOn value) = on (number field value)
-behind_effect field (Refused reason) = bad (reason_in field reason)
+abbrev pub behind_effect : Field → Result Effect Reason → Move State
+behind_effect field (Ok (Ends value)) = behind field value
+behind_effect field (Ok (GoesOn value)) = on (number field value)
+behind_effect field (Err reason) = bad (reason_in field reason)
 
 -- what a byte does where bytes stand: an octet by the rules of numbers with its field's limits, a byte of the array by none
 abbrev pub move : State → ℕ → Move State

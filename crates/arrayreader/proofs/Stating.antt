@@ -2,20 +2,23 @@
 use Prim.Native.Nat.{ℕ, ◌*◌}
 use mathlib.Core.Path.{◌≡◌, refl, sym, ap, ◌∙◌}
 use mathlib.Core.Bool.{true, false}
-use mathlib.Core.List.{List, [], ◌∷◌}
-use lib.ListN.{length}
+use mathlib.Core.List.{List, [], ◌∷◌, ◌++◌}
+use native.Mathlib.Omega.{arith}
+use lib.ListN.{length, get_or, take, drop, length-append}
+use lib.Seq.{take-append_seam, drop-append_seam}
+use Rattle.std.specs.Prelude.{Result, Ok, Err}
+use Rattle.verdict.specs.declared.Refusal.{Refusal}
+use Rattle.verdict.specs.declared.Stop.{Stop}
+use Rattle.verdict.specs.declared.Stop.TheVariants.{Unfinished as StopUnfinished, Refused as StopRefused}
 use Rattle.verdict.specs.declared.Verdict.{Verdict}
 use Rattle.verdict.specs.declared.Verdict.TheVariants.{Complete, Unfinished, Refused}
-use Rattle.verdict.specs.Stated.{refuses, stated_verdict}
+use Rattle.verdict.specs.Stated.{gives, refuses, stated_verdict}
 use Rattle.verdict.proofs.Stating.{stated_at, misses_one, gives_no_misses, gives_no_refusal, misses_no_refusal, refusal_stated}
 use Rattle.array.specs.Decoded.{meaning_of}
 use Rattle.array.specs.Offsets.{inside, offset}
 use Rattle.array.specs.Machine.{verdict_of}
 use Rattle.arraywalk.specs.Stated.{length_in, start_of}
 use Rattle.arrayreader.specs.declared.ArrayRead.{ArrayRead}
-use Rattle.arrayreader.specs.declared.ArrayRead.TheVariants.{Array, Unfinished as ReadUnfinished, Refused as ReadRefused}
-use Rattle.arrayreader.specs.declared.Addressed.{Addressed}
-use Rattle.arrayreader.specs.declared.Addressed.TheVariants.{Offset, Unfinished as AddressedUnfinished, Refused as AddressedRefused}
 use Rattle.arrayreader.specs.Reading.{sizes_of, array_read_for, array_read_of, address_for, address_of}
 use Rattle.arrayreader.specs.Stated.{array_values, stated_array_read, stated_addressed}
 
@@ -51,25 +54,59 @@ module _ (bytes indices : List ℕ) where
 
 -- ---- one answer for what is stated
 
-pub array_read_stated : (a b : ArrayRead) → stated_array_read a ≡ stated_array_read b → a ≡ b
-array_read_stated (Array d s e t l) (Array d₂ s₂ e₂ t₂ l₂) x =
-    λ i. Array (stated_at 0 x i) (record { one = stated_at 1 x i; two = stated_at 2 x i; three = stated_at 3 x i; four = stated_at 4 x i; five = stated_at 5 x i; six = stated_at 6 x i; seven = stated_at 7 x i; eight = stated_at 8 x i }) (stated_at 9 x i) (stated_at 10 x i) (stated_at 11 x i)
-array_read_stated (Array d s e t l) (ReadUnfinished m) x = absurd (gives_no_misses x)
-array_read_stated (Array d s e t l) (ReadRefused q) x = absurd (gives_no_refusal x)
-array_read_stated (ReadUnfinished m) (Array d s e t l) x = absurd (gives_no_misses (sym x))
-array_read_stated (ReadUnfinished m) (ReadUnfinished k) x = ap ReadUnfinished (misses_one x)
-array_read_stated (ReadUnfinished m) (ReadRefused q) x = absurd (misses_no_refusal x)
-array_read_stated (ReadRefused r) (Array d s e t l) x = absurd (gives_no_refusal (sym x))
-array_read_stated (ReadRefused r) (ReadUnfinished k) x = absurd (misses_no_refusal (sym x))
-array_read_stated (ReadRefused r) (ReadRefused q) x = ap ReadRefused (refusal_stated r q x)
+-- the same values, one by one
+same_values : {v u : List ℕ} → gives v ≡ gives u → v ≡ u
+same_values e = cc
 
-pub addressed_stated : (a b : Addressed) → stated_addressed a ≡ stated_addressed b → a ≡ b
-addressed_stated (Offset o) (Offset p) x = ap Offset (stated_at 0 x)
-addressed_stated (Offset o) (AddressedUnfinished m) x = absurd (gives_no_misses x)
-addressed_stated (Offset o) (AddressedRefused q) x = absurd (gives_no_refusal x)
-addressed_stated (AddressedUnfinished m) (Offset p) x = absurd (gives_no_misses (sym x))
-addressed_stated (AddressedUnfinished m) (AddressedUnfinished k) x = ap AddressedUnfinished (misses_one x)
-addressed_stated (AddressedUnfinished m) (AddressedRefused q) x = absurd (misses_no_refusal x)
-addressed_stated (AddressedRefused r) (Offset p) x = absurd (gives_no_refusal (sym x))
-addressed_stated (AddressedRefused r) (AddressedUnfinished k) x = absurd (misses_no_refusal (sym x))
-addressed_stated (AddressedRefused r) (AddressedRefused q) x = ap AddressedRefused (refusal_stated r q x)
+-- of lists with as many behind them, the front and what is behind it
+module _ (s s₂ r r₂ : List ℕ) (e : s ++ r ≡ s₂ ++ r₂) (k : length s ≡ length s₂) where
+  front_same : s ≡ s₂
+  front_same = sym (take-append_seam s r) ∙ ap (take (length s)) e ∙ ap (λ (n : ℕ). take n (s₂ ++ r₂)) k ∙ take-append_seam s₂ r₂
+
+  behind_same : r ≡ r₂
+  behind_same = sym (drop-append_seam s r) ∙ ap (drop (length s)) e ∙ ap (λ (n : ℕ). drop n (s₂ ++ r₂)) k ∙ drop-append_seam s₂ r₂
+
+module _ (a b : ArrayRead) (e : array_values a.dims a.sizes a.element a.start a.length ≡ array_values b.dims b.sizes b.element b.start b.length) where
+  abbrev ends : ArrayRead → List ℕ
+  ends x = x.element ∷ x.start ∷ x.length ∷ []
+
+  tail_same : a.sizes ++ ends a ≡ b.sizes ++ ends b
+  tail_same = ap (drop 1) e
+
+  as_many : length a.sizes ≡ length b.sizes
+  as_many = omega (arith, ap length tail_same, length-append a.sizes (ends a), length-append b.sizes (ends b))
+
+  ends_same : ends a ≡ ends b
+  ends_same = behind_same a.sizes b.sizes (ends a) (ends b) tail_same as_many
+
+  read_same : a ≡ b
+  read_same =
+      λ i. record {
+        dims = ap (λ (l : List ℕ). get_or l 0 0) e i;
+        sizes = front_same a.sizes b.sizes (ends a) (ends b) tail_same as_many i;
+        element = ap (λ (l : List ℕ). get_or l 0 0) ends_same i;
+        start = ap (λ (l : List ℕ). get_or l 1 0) ends_same i;
+        length = ap (λ (l : List ℕ). get_or l 2 0) ends_same i;
+      }
+
+pub array_read_stated : (a b : Result ArrayRead Stop) → stated_array_read a ≡ stated_array_read b → a ≡ b
+array_read_stated (Ok a) (Ok b) x = ap (λ (r : ArrayRead). Ok r) (read_same a b (same_values x))
+array_read_stated (Ok a) (Err (StopUnfinished m)) x = absurd (gives_no_misses x)
+array_read_stated (Ok a) (Err (StopRefused q)) x = absurd (gives_no_refusal x)
+array_read_stated (Err (StopUnfinished m)) (Ok b) x = absurd (gives_no_misses (sym x))
+array_read_stated (Err (StopUnfinished m)) (Err (StopUnfinished k)) x = ap (λ (n : ℕ). Err (StopUnfinished n)) (misses_one x)
+array_read_stated (Err (StopUnfinished m)) (Err (StopRefused q)) x = absurd (misses_no_refusal x)
+array_read_stated (Err (StopRefused r)) (Ok b) x = absurd (gives_no_refusal (sym x))
+array_read_stated (Err (StopRefused r)) (Err (StopUnfinished k)) x = absurd (misses_no_refusal (sym x))
+array_read_stated (Err (StopRefused r)) (Err (StopRefused q)) x = ap (λ (k : Refusal). Err (StopRefused k)) (refusal_stated r q x)
+
+pub addressed_stated : (a b : Result ℕ Stop) → stated_addressed a ≡ stated_addressed b → a ≡ b
+addressed_stated (Ok o) (Ok p) x = ap (λ (n : ℕ). Ok n) (stated_at 0 x)
+addressed_stated (Ok o) (Err (StopUnfinished m)) x = absurd (gives_no_misses x)
+addressed_stated (Ok o) (Err (StopRefused q)) x = absurd (gives_no_refusal x)
+addressed_stated (Err (StopUnfinished m)) (Ok p) x = absurd (gives_no_misses (sym x))
+addressed_stated (Err (StopUnfinished m)) (Err (StopUnfinished k)) x = ap (λ (n : ℕ). Err (StopUnfinished n)) (misses_one x)
+addressed_stated (Err (StopUnfinished m)) (Err (StopRefused q)) x = absurd (misses_no_refusal x)
+addressed_stated (Err (StopRefused r)) (Ok p) x = absurd (gives_no_refusal (sym x))
+addressed_stated (Err (StopRefused r)) (Err (StopUnfinished k)) x = absurd (misses_no_refusal (sym x))
+addressed_stated (Err (StopRefused r)) (Err (StopRefused q)) x = ap (λ (k : Refusal). Err (StopRefused k)) (refusal_stated r q x)

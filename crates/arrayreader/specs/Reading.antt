@@ -1,53 +1,41 @@
 -- What reading an array pack answers, and addressing an element of it.
-use Rattle.std.specs.Prelude.{ℕ, ◌-◌, ◌*◌, cond, List, length, get_or}
+use Rattle.std.specs.Prelude.{ℕ, ◌-◌, ◌*◌, cond, List, [], ◌∷◌, Result, Ok, Err, length, get_or}
 use Rattle.verdict.specs.declared.Reason.TheVariants.{Index}
+use Rattle.verdict.specs.declared.Stop.{Stop}
+use Rattle.verdict.specs.declared.Stop.TheVariants.{Unfinished as StopUnfinished, Refused as StopRefused}
 use Rattle.verdict.specs.declared.Verdict.{Verdict}
 use Rattle.verdict.specs.declared.Verdict.TheVariants.{Complete, Unfinished, Refused}
-use Rattle.arrayreader.specs.declared.Sizes.{Sizes}
 use Rattle.arrayreader.specs.declared.ArrayRead.{ArrayRead}
-use Rattle.arrayreader.specs.declared.ArrayRead.TheVariants.{Array, Unfinished as ReadUnfinished, Refused as ReadRefused}
-use Rattle.arrayreader.specs.declared.Addressed.{Addressed}
-use Rattle.arrayreader.specs.declared.Addressed.TheVariants.{Offset, Unfinished as AddressedUnfinished, Refused as AddressedRefused}
 use Rattle.array.specs.Meaning.{product}
 use Rattle.array.specs.Meaning.{Array as Meant}
 use Rattle.array.specs.Decoded.{meaning_of}
 use Rattle.array.specs.Offsets.{inside, offset}
 use Rattle.array.specs.Machine.{verdict_of}
 
--- a list of at most eight sizes as a record, 0 past its end
-abbrev pub sizes_of : List ℕ → Sizes
-sizes_of l =
-    record {
-      one = get_or l 0 0;
-      two = get_or l 1 0;
-      three = get_or l 2 0;
-      four = get_or l 3 0;
-      five = get_or l 4 0;
-      six = get_or l 5 0;
-      seven = get_or l 6 0;
-      eight = get_or l 7 0;
-    }
+-- a list of at most eight sizes as eight, 0 past its end
+abbrev pub sizes_of : List ℕ → List ℕ
+sizes_of l = get_or l 0 0 ∷ get_or l 1 0 ∷ get_or l 2 0 ∷ get_or l 3 0 ∷ get_or l 4 0 ∷ get_or l 5 0 ∷ get_or l 6 0 ∷ get_or l 7 0 ∷ []
 
 -- NDim, sizes and E of the meaning that a complete pack's bytes have; its array begins so many bytes before its end, which is its length
 abbrev pub array_at : Meant → ℕ → ArrayRead
-array_at a end = Array (length a.sizes) (sizes_of a.sizes) a.element (end - product a.sizes * a.element) end
+array_at a end = record { dims = length a.sizes; sizes = sizes_of a.sizes; element = a.element; start = end - product a.sizes * a.element; length = end }
 
-abbrev pub array_read_for : List ℕ → Verdict → ArrayRead
-array_read_for bytes (Complete end) = array_at (meaning_of bytes) end
-array_read_for bytes (Unfinished missing) = ReadUnfinished missing
-array_read_for bytes (Refused refusal) = ReadRefused refusal
+abbrev pub array_read_for : List ℕ → Verdict → Result ArrayRead Stop
+array_read_for bytes (Complete end) = Ok (array_at (meaning_of bytes) end)
+array_read_for bytes (Unfinished missing) = Err (StopUnfinished missing)
+array_read_for bytes (Refused refusal) = Err (StopRefused refusal)
 
-abbrev pub array_read_of : List ℕ → ArrayRead
+abbrev pub array_read_of : List ℕ → Result ArrayRead Stop
 array_read_of bytes = array_read_for bytes (verdict_of bytes)
 
 -- the offset in bytes, or refused 15
-abbrev pub address_in : Meant → List ℕ → Addressed
-address_in a indices = cond (inside a.sizes indices) (Offset (offset a.sizes indices * a.element)) (AddressedRefused (record { reason = Index; place = 0 }))
+abbrev pub address_in : Meant → List ℕ → Result ℕ Stop
+address_in a indices = cond (inside a.sizes indices) (Ok (offset a.sizes indices * a.element)) (Err (StopRefused (record { reason = Index; place = 0 })))
 
-abbrev pub address_for : List ℕ → List ℕ → Verdict → Addressed
+abbrev pub address_for : List ℕ → List ℕ → Verdict → Result ℕ Stop
 address_for bytes indices (Complete end) = address_in (meaning_of bytes) indices
-address_for bytes indices (Unfinished missing) = AddressedUnfinished missing
-address_for bytes indices (Refused refusal) = AddressedRefused refusal
+address_for bytes indices (Unfinished missing) = Err (StopUnfinished missing)
+address_for bytes indices (Refused refusal) = Err (StopRefused refusal)
 
-abbrev pub address_of : List ℕ → List ℕ → Addressed
+abbrev pub address_of : List ℕ → List ℕ → Result ℕ Stop
 address_of bytes indices = address_for bytes indices (verdict_of bytes)

@@ -6,11 +6,13 @@ use mathlib.Core.List.{List, [], ◌∷◌, ◌++◌, append_assoc}
 use native.Mathlib.Omega.{arith}
 use lib.ListN.{length, get_or, drop, take-append-drop}
 use lib.Seq.{drop-cons, drop-drop, drop-append_seam}
+use Rattle.std.specs.Prelude.{Result, Ok, Err}
+use Rattle.verdict.specs.declared.Stop.{Stop}
 use Rattle.verdict.specs.declared.Verdict.{Verdict}
 use Rattle.verdict.specs.declared.Verdict.TheVariants.{Complete, Unfinished, Refused}
+use Rattle.verdict.specs.Answers.{stopped}
 use Rattle.verdict.specs.Says.{Bytes}
-use Rattle.number.specs.declared.Drawn.TheVariants.{Number}
-use Rattle.number.specs.Draw.{draw_at}
+use Rattle.number.specs.Draw.{drawn_number, draw_at}
 use Rattle.number.specs.Octets.{octets, numbers}
 use Rattle.number.proofs.Octets.{high_none, octets_more, octets_drawn}
 use Rattle.array.specs.Meaning.{product, most}
@@ -19,30 +21,31 @@ use Rattle.array.specs.Machine.{verdict_of}
 use Rattle.array.proofs.Complete.{complete_meaning}
 use Rattle.array.proofs.Products.{Positive, size_most}
 use Rattle.arraywalk.specs.declared.Found.{Found}
-use Rattle.arraywalk.specs.declared.Walked.{Walked}
-use Rattle.arraywalk.specs.declared.Walked.TheVariants.{Whole, Unfinished as WalkedUnfinished, Refused as WalkedRefused}
 use Rattle.arraywalk.specs.Standing.{SizesAt}
 use Rattle.arraywalk.specs.Walk.{found_of, walked_for, walked_of}
 
 -- the verdict that a walk's answer stands for
-abbrev pub verdict_in : Walked → Verdict
-verdict_in (Whole found) = Complete found.length
-verdict_in (WalkedUnfinished missing) = Unfinished missing
-verdict_in (WalkedRefused refusal) = Refused refusal
+abbrev pub verdict_in : Result Found Stop → Verdict
+verdict_in (Ok found) = Complete found.length
+verdict_in (Err stop) = stopped stop
 
 verdict_back : (bytes : List ℕ) (v : Verdict) → verdict_in (walked_for bytes v) ≡ v
 verdict_back bytes (Complete n) = refl
 verdict_back bytes (Unfinished missing) = refl
 verdict_back bytes (Refused refusal) = refl
 
-pub walk_said : (bytes : List ℕ) (walked : Walked) → walked ≡ walked_of bytes → verdict_of bytes ≡ verdict_in walked
+pub walk_said : (bytes : List ℕ) (walked : Result Found Stop) → walked ≡ walked_of bytes → verdict_of bytes ≡ verdict_in walked
 walk_said bytes walked e = sym (ap verdict_in e ∙ verdict_back bytes (verdict_of bytes))
 
+-- a whole pack was found
+abbrev found_whole : Found → Result Found Stop
+found_whole found = Ok found
+
 -- a whole pack that was found is the one of the bytes
-pub found_is : (bytes : List ℕ) (found : Found) → Whole found ≡ walked_of bytes → found ≡ found_of bytes found.length
-found_is bytes found w = inside (w ∙ ap (walked_for bytes) (walk_said bytes (Whole found) w))
+pub found_is : (bytes : List ℕ) (found : Found) → Ok found ≡ walked_of bytes → found ≡ found_of bytes found.length
+found_is bytes found w = inside (w ∙ ap (walked_for bytes) (walk_said bytes (Ok found) w))
   where
-    inside : {x y : Found} → Whole x ≡ Whole y → x ≡ y
+    inside : {x y : Found} → found_whole x ≡ found_whole y → x ≡ y
     inside e = cc
 
 -- ---- the sizes in the bytes
@@ -67,7 +70,7 @@ module _ (bytes sizes : List ℕ) (count place : ℕ) (s : SizesAt bytes sizes c
   next_stands = s.stand ∙ rw (drop-cons sizes count 0 h, append_assoc)
 
   -- the next of them is drawn, each within the limit of all
-  pub size_drawn : Positive sizes → product sizes ≤ most → draw_at bytes place true most ≡ Number size (place + length (octets size))
+  pub size_drawn : Positive sizes → product sizes ≤ most → draw_at bytes place true most ≡ drawn_number size (place + length (octets size))
   size_drawn p m = rw next_stands (octets_drawn size place true most (numbers (drop (suc count) sizes) ++ s.tail) (λ _. p count h) (omega (arith, size_most sizes p count h)))
 
   pub sizes_next : SizesAt bytes sizes (suc count) (place + length (octets size))

@@ -3,14 +3,17 @@ use Prim.Native.Nat.{ℕ}
 use mathlib.Core.Path.{◌≡◌, refl, sym, ap}
 use mathlib.Core.List.{List, [], ◌∷◌}
 use lib.ListN.{length}
+use Rattle.std.specs.Prelude.{Result, Ok, Err}
+use Rattle.verdict.specs.declared.Refusal.{Refusal}
+use Rattle.verdict.specs.declared.Stop.{Stop}
+use Rattle.verdict.specs.declared.Stop.TheVariants.{Unfinished as StopUnfinished, Refused as StopRefused}
 use Rattle.verdict.specs.declared.Verdict.{Verdict}
 use Rattle.verdict.specs.declared.Verdict.TheVariants.{Complete, Unfinished, Refused}
 use Rattle.verdict.specs.Stated.{stated_verdict}
 use Rattle.verdict.proofs.Stating.{stated_at, misses_one, gives_no_misses, gives_no_refusal, misses_no_refusal, refusal_stated}
 use Rattle.array.specs.Decoded.{meaning_of}
 use Rattle.array.specs.Machine.{verdict_of}
-use Rattle.arraywalk.specs.declared.Walked.{Walked}
-use Rattle.arraywalk.specs.declared.Walked.TheVariants.{Whole, Unfinished as WalkedUnfinished, Refused as WalkedRefused}
+use Rattle.arraywalk.specs.declared.Found.{Found}
 use Rattle.arraywalk.specs.Walk.{walked_for, walked_of}
 use Rattle.arraywalk.specs.Stated.{stated_walked, length_in, start_of}
 
@@ -26,13 +29,13 @@ walked_states bytes = for (verdict_of bytes)
     for (Unfinished missing) = refl
     for (Refused refusal) = refl
 
-pub walked_stated : (a b : Walked) → stated_walked a ≡ stated_walked b → a ≡ b
-walked_stated (Whole f) (Whole g) e = λ i. Whole (record { dims = stated_at 0 e i; element = stated_at 1 e i; start = stated_at 2 e i; length = stated_at 3 e i })
-walked_stated (Whole f) (WalkedUnfinished m) e = absurd (gives_no_misses e)
-walked_stated (Whole f) (WalkedRefused q) e = absurd (gives_no_refusal e)
-walked_stated (WalkedUnfinished m) (Whole g) e = absurd (gives_no_misses (sym e))
-walked_stated (WalkedUnfinished m) (WalkedUnfinished k) e = ap WalkedUnfinished (misses_one e)
-walked_stated (WalkedUnfinished m) (WalkedRefused q) e = absurd (misses_no_refusal e)
-walked_stated (WalkedRefused r) (Whole g) e = absurd (gives_no_refusal (sym e))
-walked_stated (WalkedRefused r) (WalkedUnfinished k) e = absurd (misses_no_refusal (sym e))
-walked_stated (WalkedRefused r) (WalkedRefused q) e = ap WalkedRefused (refusal_stated r q e)
+pub walked_stated : (a b : Result Found Stop) → stated_walked a ≡ stated_walked b → a ≡ b
+walked_stated (Ok f) (Ok g) e = λ i. Ok (record { dims = stated_at 0 e i; element = stated_at 1 e i; start = stated_at 2 e i; length = stated_at 3 e i })
+walked_stated (Ok f) (Err (StopUnfinished m)) e = absurd (gives_no_misses e)
+walked_stated (Ok f) (Err (StopRefused q)) e = absurd (gives_no_refusal e)
+walked_stated (Err (StopUnfinished m)) (Ok g) e = absurd (gives_no_misses (sym e))
+walked_stated (Err (StopUnfinished m)) (Err (StopUnfinished k)) e = ap (λ (n : ℕ). Err (StopUnfinished n)) (misses_one e)
+walked_stated (Err (StopUnfinished m)) (Err (StopRefused q)) e = absurd (misses_no_refusal e)
+walked_stated (Err (StopRefused r)) (Ok g) e = absurd (gives_no_refusal (sym e))
+walked_stated (Err (StopRefused r)) (Err (StopUnfinished k)) e = absurd (misses_no_refusal (sym e))
+walked_stated (Err (StopRefused r)) (Err (StopRefused q)) e = ap (λ (k : Refusal). Err (StopRefused k)) (refusal_stated r q e)

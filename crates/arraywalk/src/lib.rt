@@ -7,16 +7,14 @@ ghost use Rattle.verdict.specs.Says.{Bytes};
 ghost use Rattle.array.specs.Table.{processing};
 ghost use Rattle.array.specs.Machine.{number, move};
 ghost use Rattle.arraywalk.specs.Walk.{walked_of};
-ghost use Rattle.arraywalk.specs.Parts.{Takes, progress_behind, sizing_of, DimsTo, SizedTo, SizingFrom, ElementTo, ProcessedTo, HeadingFrom, WalkFrom};
+ghost use Rattle.arraywalk.specs.Parts.{DimsTo, SizedTo, SizingFrom, ElementTo, ProcessedTo, HeadingFrom, WalkFrom};
 
-use number::{Drawn, draw, draw_from, numbers_at};
-use verdict::{Reason, Refusal};
-
-// The greatest product of sizes, and of sizes and E.
-const MOST: u32 = 32768;
+use array::MOST;
+use number::{Number, Numbers, Undrawn, draw_from};
+use verdict::{Reason, Stop};
 
 // A whole pack: NDim, E, the place of the array's first byte, the length.
-#[derive(Drop)]
+#[derive(Clone, Copy, PartialEq, Eq)]
 pub struct Found {
     pub dims: usize,
     pub element: usize,
@@ -24,210 +22,125 @@ pub struct Found {
     pub length: usize,
 }
 
-#[derive(Drop)]
-pub enum Walked {
-    Whole(Found),
-    Unfinished(usize),
-    Refused(Refusal),
-}
-
-// How far the drawing of the sizes is: those left, the product of those drawn, and whether another is to be drawn.
-#[derive(Drop)]
-pub(crate) struct Progress {
-    pub left: usize,
-    pub product: u32,
-    pub more: bool,
-}
-
-// The sizes drawn: the place behind them, their product.
-#[derive(Clone, Copy, Drop)]
+// The sizes drawn: how many, the place behind them, their product.
+#[derive(Clone, Copy)]
 pub(crate) struct Sized {
+    pub dims: usize,
     pub place: usize,
     pub product: usize,
 }
 
-// All sizes drawn, or the verdict in them.
-#[derive(Drop)]
-pub(crate) enum Sizing {
-    To(Sized),
-    Unfinished(usize),
-    Refused(Refusal),
+// All numbers drawn: the sizes, E, the place behind processing.
+#[derive(Clone, Copy)]
+pub(crate) struct Heading {
+    pub sized: Sized,
+    pub element: usize,
+    pub start: usize,
 }
 
-// All numbers drawn: NDim, E and the place behind processing; or the verdict in them.
-#[derive(Drop)]
-pub(crate) enum Heading {
-    To {
-        dims: usize,
-        element: usize,
-        start: usize,
-    },
-    Unfinished(usize),
-    Refused(Refusal),
-}
-
-// What was drawn in the place of a size is taken.
-fn take_size(progress: Progress, drawn: Drawn) -> Progress
-    requires { Takes progress drawn }
-    ensures { result ≡ progress_behind progress drawn }
+// The sizes behind NDim, drawn one after the other by a reader that keeps its place.
+fn draw_sizes(bytes: &[u8], dims: Number) -> Result<Sized, Stop>
+    requires { Bytes bytes.now × DimsTo bytes.now dims.value dims.next }
+    ensures { SizingFrom bytes.now result }
 {
-    match drawn {
-        Drawn::Number { value, next: _ } => Progress {
-            left: progress.left - 1,
-            product: progress.product * value as u32,
-            more: 1 < progress.left,
-        },
-        Drawn::Cut(_) => Progress {
-            left: progress.left,
-            product: progress.product,
-            more: false,
-        },
-        Drawn::Refused(_) => Progress {
-            left: progress.left,
-            product: progress.product,
-            more: false,
-        },
+    let all = dims.value as usize;
+    let mut numbers = Numbers::at(bytes, dims.next);
+    let mut product: u32 = 1;
+    for count in 0..all {
+        numbers = numbers.draw(true, MOST, product);
+        match numbers.drawn {
+            Ok(size) => product *= size.value as u32,
+            Err(Undrawn::Cut(_)) => return Err(Stop::Unfinished(all - count + 2)),
+            Err(Undrawn::Refused(refusal)) => return Err(Stop::Refused(refusal)),
+        }
     }
-}
-
-// All sizes drawn, up to a place, or the verdict in what was drawn last.
-fn sizing_of(progress: Progress, place: usize, drawn: Drawn) -> Sizing
-    requires { progress.left ≤ 8 }
-    ensures { result ≡ sizing_of progress place drawn }
-{
-    match drawn {
-        Drawn::Number { value: _, next: _ } => Sizing::To(Sized {
-            place,
-            product: progress.product as usize,
-        }),
-        Drawn::Cut(_) => Sizing::Unfinished(progress.left + 2),
-        Drawn::Refused(refusal) => Sizing::Refused(refusal),
-    }
-}
-
-// The sizes behind NDim, which ends at `place`, drawn one after the other by a reader that keeps its place.
-fn draw_sizes(bytes: &[u8], dims: usize, place: usize) -> Sizing
-    requires { Bytes bytes.now × DimsTo bytes.now dims place }
-    ensures { SizingFrom bytes.now dims result }
-{
-    let mut numbers = numbers_at(bytes, place);
-    let mut progress = Progress {
-        left: dims,
-        product: 1,
-        more: true,
-    };
-    while progress.more {
-        numbers = draw(numbers, true, MOST, progress.product);
-        progress = take_size(progress, numbers.drawn);
-    }
-    sizing_of(progress, numbers.place, numbers.drawn)
+    Ok(Sized {
+        dims: all,
+        place: numbers.place,
+        product: product as usize,
+    })
 }
 
 // Why an octet that is not 1 is refused as processing.
 fn processing_reason(octet: u8) -> Reason
     ensures { octet ≢ 1 → (total : ℕ) → move (number (processing total) 0) octet ≡ bad result }
 {
-    if octet == 0 {
-        return Reason::Zero;
+    match octet {
+        0 => Reason::Zero,
+        0x80 => Reason::PaddedNumber,
+        _ => Reason::Processing,
     }
-    if octet == 0x80 {
-        return Reason::PaddedNumber;
-    }
-    Reason::Processing
 }
 
-// Processing behind E, which ends at `place`.
-fn past_processing(bytes: &[u8], dims: usize, sized: Sized, element: usize, place: usize) -> Heading
-    requires { ElementTo bytes.now dims sized element place }
-    ensures { HeadingFrom bytes.now sized result }
+// Processing behind E.
+fn past_processing(bytes: &[u8], sized: Sized, element: Number) -> Result<Heading, Stop>
+    requires { ElementTo bytes.now sized element.value element.next }
+    ensures { HeadingFrom bytes.now result }
 {
+    let each = element.value as usize;
+    let place = element.next;
     if bytes.len() <= place {
-        return Heading::Unfinished(1 + sized.product * element);
+        return Err(Stop::Unfinished(1 + sized.product * each));
     }
     let octet = bytes[place];
     if octet == 1 {
-        return Heading::To {
-            dims,
-            element,
+        return Ok(Heading {
+            sized,
+            element: each,
             start: place + 1,
-        };
+        });
     }
-    Heading::Refused(Refusal {
-        reason: processing_reason(octet),
-        place,
-    })
+    Err(Stop::Refused(processing_reason(octet).at(place)))
 }
 
 // E and processing behind the sizes.
-fn draw_element(bytes: &[u8], dims: usize, sized: Sized) -> Heading
-    requires { SizedTo bytes.now dims dims sized }
-    ensures { HeadingFrom bytes.now sized result }
+fn draw_element(bytes: &[u8], sized: Sized) -> Result<Heading, Stop>
+    requires { SizedTo bytes.now sized.dims sized }
+    ensures { HeadingFrom bytes.now result }
 {
     let product = sized.product;
-    let drawn = draw_from(bytes, sized.place, false, MOST, product as u32);
-    match drawn {
-        Drawn::Number { value, next } => past_processing(bytes, dims, sized, value as usize, next),
-        Drawn::Cut(begun) => Heading::Unfinished(2 + product * (begun as usize * 128)),
-        Drawn::Refused(refusal) => Heading::Refused(refusal),
+    match draw_from(bytes, sized.place, false, MOST, product as u32) {
+        Ok(element) => past_processing(bytes, sized, element),
+        Err(Undrawn::Cut(begun)) => Err(Stop::Unfinished(2 + product * (begun as usize * 128))),
+        Err(Undrawn::Refused(refusal)) => Err(Stop::Refused(refusal)),
     }
 }
 
-// The array behind processing, which ends at `start`.
-fn from_array(bytes: &[u8], dims: usize, sized: Sized, element: usize, start: usize) -> Walked
-    requires { ProcessedTo bytes.now dims sized element start }
+// The array behind processing.
+fn from_array(bytes: &[u8], heading: Heading) -> Result<Found, Stop>
+    requires { ProcessedTo bytes.now heading }
     ensures { WalkFrom bytes.now result }
 {
-    let total = sized.product * element;
-    let length = start + total;
+    let sized = heading.sized;
+    let length = heading.start + sized.product * heading.element;
     if bytes.len() < length {
-        return Walked::Unfinished(length - bytes.len());
+        return Err(Stop::Unfinished(length - bytes.len()));
     }
-    Walked::Whole(Found {
-        dims,
-        element,
-        start,
+    Ok(Found {
+        dims: sized.dims,
+        element: heading.element,
+        start: heading.start,
         length,
     })
 }
 
-// Behind the sizes.
-fn from_element(bytes: &[u8], dims: usize, sized: Sized) -> Walked
-    requires { SizedTo bytes.now dims dims sized }
+// Behind NDim.
+fn from_sizes(bytes: &[u8], dims: Number) -> Result<Found, Stop>
+    requires { DimsTo bytes.now dims.value dims.next }
     ensures { WalkFrom bytes.now result }
 {
-    let heading = draw_element(bytes, dims, sized);
-    match heading {
-        Heading::To {
-            dims: count,
-            element,
-            start,
-        } => from_array(bytes, count, sized, element, start),
-        Heading::Unfinished(missing) => Walked::Unfinished(missing),
-        Heading::Refused(refusal) => Walked::Refused(refusal),
-    }
-}
-
-// Behind NDim, which ends at `place`.
-fn from_sizes(bytes: &[u8], dims: usize, place: usize) -> Walked
-    requires { DimsTo bytes.now dims place }
-    ensures { WalkFrom bytes.now result }
-{
-    let sizing = draw_sizes(bytes, dims, place);
-    match sizing {
-        Sizing::To(sized) => from_element(bytes, dims, sized),
-        Sizing::Unfinished(missing) => Walked::Unfinished(missing),
-        Sizing::Refused(refusal) => Walked::Refused(refusal),
-    }
+    let sized = draw_sizes(bytes, dims)?;
+    let heading = draw_element(bytes, sized)?;
+    from_array(bytes, heading)
 }
 
 // What a walk over the bytes finds, for callers that read the sizes themselves.
-pub fn found_in(bytes: &[u8]) -> Walked
+pub fn found_in(bytes: &[u8]) -> Result<Found, Stop>
     ensures { result ≡ walked_of bytes.now }
 {
-    let drawn = draw_from(bytes, 0, true, 8, 1);
-    match drawn {
-        Drawn::Number { value, next } => from_sizes(bytes, value as usize, next),
-        Drawn::Cut(_) => Walked::Unfinished(4),
-        Drawn::Refused(refusal) => Walked::Refused(refusal),
+    match draw_from(bytes, 0, true, 8, 1) {
+        Ok(dims) => from_sizes(bytes, dims),
+        Err(Undrawn::Cut(_)) => Err(Stop::Unfinished(4)),
+        Err(Undrawn::Refused(refusal)) => Err(Stop::Refused(refusal)),
     }
 }

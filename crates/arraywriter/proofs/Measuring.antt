@@ -9,15 +9,14 @@ use borrow.Author.Tests.{eq-eqb, ne_eqb, lt-ltb, le-ltb, eqb-false, ltb-false}
 use lib.ListN.{length, drop, get_or, drop_of_length-le}
 use lib.Seq.{drop-cons}
 use Rattle.verdict.specs.declared.Reason.{Reason}
-use Rattle.verdict.specs.declared.Reason.TheVariants.{Zero, TooLarge, Disagree}
-use Rattle.verdict.specs.declared.Judged.TheVariants.{Kept as JudgedKept, Broken as JudgedBroken}
+use Rattle.verdict.specs.declared.Reason.TheVariants.{Zero, TooLarge}
+use Rattle.std.specs.Prelude.{Ok, Err}
 use Rattle.verdict.specs.Rows.{Row}
 use Rattle.verdict.specs.Judgement.{judgement}
 use Rattle.verdict.proofs.Judging.{Kept}
 use Rattle.array.specs.Meaning.{product, most}
 use Rattle.array.proofs.Keeping.{limit_product}
-use Rattle.arraywriter.specs.declared.check.Measured.TheVariants.{Product, Broken}
-use Rattle.arraywriter.specs.Given.{size_rows, body_rows}
+use Rattle.arraywriter.specs.Given.{size_rows}
 use Rattle.arraywriter.specs.Checking.{measured_of}
 
 pub not_nought : (n : ℕ) → (n ≡ 0 → ⊥) → 1 ≤ n
@@ -38,23 +37,20 @@ pub record MeasuredTo (sizes : List ℕ) (elements i : ℕ) : Type 0 where
   pub leads : measured_of (size_rows 1 sizes) (product sizes) ≡ measured_of (size_rows elements (drop i sizes)) (product sizes)
 
 module _ (sizes : List ℕ) where
-  pub measured_none : MeasuredTo sizes 1 0
-  measured_none = record { least = omega arith; limited = omega arith; whole = omega arith; leads = refl }
-
   module _ (elements i : ℕ) (m : MeasuredTo sizes elements i) where
-    pub measured_all : length sizes ≤ i → measured_of (size_rows 1 sizes) (product sizes) ≡ Product elements
+    pub measured_all : length sizes ≤ i → measured_of (size_rows 1 sizes) (product sizes) ≡ Ok elements
     unfolding product size_rows
     measured_all h =
         let none = drop_of_length-le sizes h in
         let e : elements * product [] ≡ product sizes = rw none at m.whole in
-        m.leads ∙ rw none (ap Product (sym e ∙ mul-one elements))
+        m.leads ∙ rw none (ap (λ (n : ℕ). Ok n) (sym e ∙ mul-one elements))
 
     module _ (inside : i < length sizes) where
-      pub measured_zero : get_or sizes i 0 ≡ 0 → measured_of (size_rows 1 sizes) (product sizes) ≡ Broken Zero
+      pub measured_zero : get_or sizes i 0 ≡ 0 → measured_of (size_rows 1 sizes) (product sizes) ≡ Err Zero
       unfolding size_rows
       measured_zero z = m.leads ∙ rw (drop-cons sizes i 0 inside, eq-eqb (get_or sizes i 0) 0 z)
 
-      pub measured_large : (get_or sizes i 0 ≡ 0 → ⊥) → most / elements < get_or sizes i 0 → measured_of (size_rows 1 sizes) (product sizes) ≡ Broken TooLarge
+      pub measured_large : (get_or sizes i 0 ≡ 0 → ⊥) → most / elements < get_or sizes i 0 → measured_of (size_rows 1 sizes) (product sizes) ≡ Err TooLarge
       unfolding size_rows
       measured_large z h =
           m.leads
@@ -72,35 +68,23 @@ module _ (sizes : List ℕ) where
             leads = m.leads ∙ rw (drop-cons sizes i 0 inside, ne_eqb size 0 z, le-ltb most (elements * size) within);
           }
 
--- ---- E and the array behind the sizes
-
-module _ (sizes : List ℕ) (elements element : ℕ) (body : List ℕ) (e : elements ≡ product sizes) (least : 1 ≤ elements) where
-  pub body_large : most / elements < element → judgement (body_rows sizes element body) ≡ JudgedBroken TooLarge
-  body_large h = rw (← e, lt-ltb most (elements * element) (limit_passed elements element least h))
-
-  pub body_other : element ≤ most / elements → (length body ≡ elements * element → ⊥) → judgement (body_rows sizes element body) ≡ JudgedBroken Disagree
-  body_other h d = rw (← e, le-ltb most (elements * element) (limit_product elements element least h), ne_eqb (length body) (elements * element) d)
-
-  pub body_kept : element ≤ most / elements → length body ≡ elements * element → judgement (body_rows sizes element body) ≡ JudgedKept
-  body_kept h d = rw (← e, le-ltb most (elements * element) (limit_product elements element least h), eq-eqb (length body) (elements * element) d)
-
 -- ---- what the product's answer says
 
 -- a product comes where the rules are kept
-pub product_kept : (rows : List Row) (p q : ℕ) → measured_of rows p ≡ Product q → Kept rows × (q ≡ p)
+pub product_kept : (rows : List Row) (p q : ℕ) → measured_of rows p ≡ Ok q → Kept rows × (q ≡ p)
 product_kept [] p q e = (tt, cc)
 product_kept (row ∷ rows) p q e = go row.broken refl e (product_kept rows p q)
   where
-    go : (t : Bool) → row.broken ≡ t → cond t (Broken row.reason) (measured_of rows p) ≡ Product q → (measured_of rows p ≡ Product q → Kept rows × (q ≡ p)) → ((row.broken ≡ false) × Kept rows) × (q ≡ p)
+    go : (t : Bool) → row.broken ≡ t → cond t (Err row.reason) (measured_of rows p) ≡ Ok q → (measured_of rows p ≡ Ok q → Kept rows × (q ≡ p)) → ((row.broken ≡ false) × Kept rows) × (q ≡ p)
     go true b h f = let z : ◌≡◌ {A = ℕ} 0 1 = cc in absurd (omega arith)
     go false b h f = ((b, (f h).0), (f h).1)
 
 -- a reason is that of the first broken rule
-pub broken_judged : (rows : List Row) (p : ℕ) (reason : Reason) → measured_of rows p ≡ Broken reason → judgement rows ≡ JudgedBroken reason
+pub broken_judged : (rows : List Row) (p : ℕ) (reason : Reason) → measured_of rows p ≡ Err reason → judgement rows ≡ Err reason
 broken_judged [] p reason e = let z : ◌≡◌ {A = ℕ} 0 1 = cc in absurd (omega arith)
 broken_judged (row ∷ rows) p reason e = go row.broken e (broken_judged rows p reason)
   where
-    go : (t : Bool) → cond t (Broken row.reason) (measured_of rows p) ≡ Broken reason → (measured_of rows p ≡ Broken reason → judgement rows ≡ JudgedBroken reason) → cond t (JudgedBroken row.reason) (judgement rows) ≡ JudgedBroken reason
+    go : (t : Bool) → cond t (Err row.reason) (measured_of rows p) ≡ Err reason → (measured_of rows p ≡ Err reason → judgement rows ≡ Err reason) → cond t (Err row.reason) (judgement rows) ≡ Err reason
     go true h f = cc
     go false h f = f h
 

@@ -3,13 +3,15 @@ use Prim.Native.Nat.{ℕ, suc, ◌+◌, ◌*◌, ◌^◌, ◌≤◌, ◌<◌}
 use mathlib.Core.Path.{◌≡◌, refl, sym, ap, ◌∙◌}
 use mathlib.Core.List.{List, [], ◌∷◌, ◌++◌, append_assoc, append-nil}
 use native.Mathlib.Omega.{arith}
-use lib.ListN.{length, drop, get_or, set, length-append}
+use lib.ListN.{length, drop, get_or, length-append}
 use lib.Seq.{drop-cons}
 use Rattle.verdict.specs.declared.Refusal.{Refusal}
-use Rattle.verdict.specs.declared.Verdict.{Verdict}
-use Rattle.verdict.specs.declared.Verdict.TheVariants.{Complete, Unfinished, Refused}
+use Rattle.std.specs.Prelude.{Result, Ok}
+use Rattle.verdict.specs.declared.Verdict.TheVariants.{Complete}
+use Rattle.verdict.specs.Answers.{written}
+use Rattle.verdict.proofs.Answering.{written_own}
 use Rattle.verdict.specs.Writing.{put}
-use Rattle.verdict.proofs.Putting.{put_none, put_one, put_put, length_put}
+use Rattle.verdict.proofs.Putting.{put_none, put_put, length_put}
 use Rattle.number.specs.Octets.{octets, numbers}
 use Rattle.number.proofs.Counts.{octets_short}
 
@@ -45,9 +47,6 @@ module _ (out₀ : List ℕ) (place : ℕ) (whole : List ℕ) where
           is = o ∙ rw (p.is, p.reached) (put_put out₀ place p.done part (omega arith));
         }
 
-    pub put_to_byte : (x : ℕ) (left out : List ℕ) (at' : ℕ) → PutTo out₀ place whole at (x ∷ left) out → at' ≡ at + 1 → PutTo out₀ place whole at' left (set out at x)
-    put_to_byte x left out at' p a = put_to_more (x ∷ []) left out at' (set out at x) p a (put_one out at x (omega (arith, put_to_room (x ∷ []) left out p)))
-
     pub put_to_all : (left out : List ℕ) → left ≡ [] → PutTo out₀ place whole at left out → (at ≡ place + length whole) × (out ≡ put out₀ place whole)
     put_to_all left out e p =
         let done : whole ≡ p.done = p.parts ∙ rw e (append-nil p.done) in
@@ -73,14 +72,11 @@ pub numbers_none : numbers [] ≡ []
 unfolding numbers
 numbers_none = refl
 
--- ---- a verdict is complete in one way
+-- ---- a writer's answer is complete in one way
 
-module _ (v : Verdict) (n : ℕ) (e : v ≡ Complete n) where
-  pub complete_count : (m : ℕ) → v ≡ Complete m → m ≡ n
-  complete_count m f = cc
+module _ (answer : Result ℕ Refusal) (n : ℕ) (e : written answer ≡ Complete n) where
+  pub complete_ok : answer ≡ Ok n
+  complete_ok = written_own answer (Ok n) e
 
-  pub complete_no_cut : (m : ℕ) → v ≡ Unfinished m → ⊥
-  complete_no_cut m f = let z : ◌≡◌ {A = ℕ} 0 1 = cc in omega arith
-
-  pub complete_no_refusal : (r : Refusal) → v ≡ Refused r → ⊥
-  complete_no_refusal r f = let z : ◌≡◌ {A = ℕ} 0 1 = cc in omega arith
+  pub complete_count : (m : ℕ) → answer ≡ Ok m → m ≡ n
+  complete_count m f = let g : ◌≡◌ {A = Result ℕ Refusal} (Ok m) (Ok n) = sym f ∙ complete_ok in cc

@@ -1,5 +1,6 @@
 // The bytes of a lawful array pack, put one after the other where there is room.
 ghost use Rattle.std.specs.Prelude.{◌≡◌, ◌+◌, ◌≤◌, ◌<◌, length};
+ghost use Rattle.verdict.specs.Answers.{written};
 ghost use Rattle.verdict.specs.Writing.{put, room_rows, WrittenBy};
 ghost use Rattle.number.specs.Octets.{octets, numbers};
 ghost use Rattle.array.specs.Meaning.{Lawful};
@@ -7,7 +8,7 @@ ghost use Rattle.array.specs.Spelling.{bytes_of};
 ghost use Rattle.arraywriter.specs.Given.{meaning_given};
 
 use numberwriter::write::{count_of, write_at};
-use verdict::{Reason, Refusal, Verdict};
+use verdict::{Reason, Refusal};
 
 // How many octets so few numbers have.
 fn count_all(values: &[usize]) -> usize
@@ -15,10 +16,8 @@ fn count_all(values: &[usize]) -> usize
     ensures { result ≡ length (numbers values.now) }
 {
     let mut count: usize = 0;
-    let mut i = 0;
-    while i < values.len() {
-        count += count_of(values[i] as u64);
-        i += 1;
+    for &value in values {
+        count += count_of(value as u64);
     }
     count
 }
@@ -29,12 +28,7 @@ fn put_number(out: &mut [u8], place: usize, value: usize) -> usize
     ensures value { result ≡ place + length (octets value) }
     ensures out_after { out.new ≡ put out.old place (octets value) }
 {
-    let said = write_at(out, place, value as u64);
-    match said {
-        Verdict::Complete(count) => place + count,
-        Verdict::Unfinished(_) => place,
-        Verdict::Refused(_) => place,
-    }
+    place + write_at(out, place, value as u64).unwrap()
 }
 
 // Numbers one after the other at a place with room for them, and the place behind them.
@@ -44,10 +38,8 @@ fn put_numbers(out: &mut [u8], place: usize, values: &[usize]) -> usize
     ensures out_after { out.new ≡ put out.old place (numbers values.now) }
 {
     let mut at = place;
-    let mut i = 0;
-    while i < values.len() {
-        at = put_number(out, at, values[i]);
-        i += 1;
+    for &value in values {
+        at = put_number(out, at, value);
     }
     at
 }
@@ -57,11 +49,8 @@ fn put_bytes(out: &mut [u8], place: usize, bytes: &[u8])
     requires { place + length bytes.now ≤ length out.old }
     ensures { out.new ≡ put out.old place bytes.now }
 {
-    let mut i = 0;
-    while i < bytes.len() {
-        out[place + i] = bytes[i];
-        i += 1;
-    }
+    let end = place + bytes.len();
+    out[place..end].copy_from_slice(bytes);
 }
 
 // NDim, the sizes, E, processing 1 and the array one after the other, where there is room for them.
@@ -77,18 +66,20 @@ fn put_given(sizes: &[usize], element: usize, array: &[u8], out: &mut [u8])
 }
 
 // Writes what is lawful, where there is room.
-pub(crate) fn write_given(sizes: &[usize], element: usize, array: &[u8], out: &mut [u8]) -> Verdict
+pub(crate) fn write_given(
+    sizes: &[usize],
+    element: usize,
+    array: &[u8],
+    out: &mut [u8],
+) -> Result<usize, Refusal>
     requires { Lawful (meaning_given sizes.now element array.now) }
-    ensures { WrittenBy (room_rows (length (bytes_of (meaning_given sizes.now element array.now))) (length out.old)) (bytes_of (meaning_given sizes.now element array.now)) out.old 0 result out.new }
+    ensures { WrittenBy (room_rows (length (bytes_of (meaning_given sizes.now element array.now))) (length out.old)) (bytes_of (meaning_given sizes.now element array.now)) out.old 0 (written result) out.new }
 {
     let head = count_of(sizes.len() as u64) + (count_all(sizes) + (count_of(element as u64) + 1));
     let whole = head + array.len();
     if out.len() < whole {
-        return Verdict::Refused(Refusal {
-            reason: Reason::SmallBuffer,
-            place: 0,
-        });
+        return Err(Reason::SmallBuffer.at(0));
     }
     put_given(sizes, element, array, out);
-    Verdict::Complete(whole)
+    Ok(whole)
 }

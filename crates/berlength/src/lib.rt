@@ -4,64 +4,67 @@
 ghost use Rattle.std.specs.Prelude.{◌≡◌, drop};
 ghost use Rattle.berlength.specs.Lengths.{one_byte, two_bytes, length_of};
 
-// A length that is not all there, one not in its shortest form, or its value with the count of its bytes.
-#[derive(Drop)]
-pub enum Length {
+use verdict::Reason;
+
+// A length's value, and the count of its bytes.
+#[derive(Clone, Copy, PartialEq, Eq)]
+pub struct Length {
+    pub value: usize,
+    pub octets: usize,
+}
+
+// Why there is no length: it is not all there, or not in its shortest form.
+#[derive(Clone, Copy, PartialEq, Eq)]
+pub enum NoLength {
     Missing,
     WrongForm,
-    Of { value: usize, octets: usize },
 }
 
 // Behind 81.
-fn one_byte(bytes: &[u8], place: usize) -> Length
-    ensures { result ≡ one_byte (drop place bytes.now) }
+fn one_byte(bytes: &[u8]) -> Result<Length, NoLength>
+    ensures { result ≡ one_byte bytes.now }
 {
-    if bytes.len() <= place {
-        return Length::Missing;
+    match bytes {
+        [] => Err(NoLength::Missing),
+        [0..=127, ..] => Err(NoLength::WrongForm),
+        [value, ..] => Ok(Length {
+            value: usize::from(*value),
+            octets: 2,
+        }),
     }
-    let value = bytes[place] as usize;
-    if value < 128 {
-        return Length::WrongForm;
-    }
-    Length::Of { value, octets: 2 }
 }
 
 // Behind 82.
-fn two_bytes(bytes: &[u8], place: usize) -> Length
-    ensures { result ≡ two_bytes (drop place bytes.now) }
+fn two_bytes(bytes: &[u8]) -> Result<Length, NoLength>
+    ensures { result ≡ two_bytes bytes.now }
 {
-    if bytes.len() <= place {
-        return Length::Missing;
+    match bytes {
+        [] | [_] => Err(NoLength::Missing),
+        [high, low, ..] => {
+            let value = usize::from(*high) * 256 + usize::from(*low);
+            if value < 256 {
+                return Err(NoLength::WrongForm);
+            }
+            Ok(Length { value, octets: 3 })
+        }
     }
-    if bytes.len() - place == 1 {
-        return Length::Missing;
-    }
-    let value = bytes[place] as usize * 256 + bytes[place + 1] as usize;
-    if value < 256 {
-        return Length::WrongForm;
-    }
-    Length::Of { value, octets: 3 }
 }
 
 // The length at a place of the bytes.
-pub fn length_at(bytes: &[u8], place: usize) -> Length
+pub fn length_at(bytes: &[u8], place: usize) -> Result<Length, NoLength>
     ensures { result ≡ length_of (drop place bytes.now) }
 {
     if bytes.len() <= place {
-        return Length::Missing;
+        return Err(NoLength::Missing);
     }
-    let first = bytes[place] as usize;
-    if first < 0x80 {
-        return Length::Of {
-            value: first,
+    let behind = &bytes[place + 1..];
+    match bytes[place] {
+        0x81 => one_byte(behind),
+        0x82 => two_bytes(behind),
+        first if first < 0x80 => Ok(Length {
+            value: usize::from(first),
             octets: 1,
-        };
+        }),
+        _ => Err(NoLength::WrongForm),
     }
-    if first == 0x81 {
-        return one_byte(bytes, place + 1);
-    }
-    if first == 0x82 {
-        return two_bytes(bytes, place + 1);
-    }
-    Length::WrongForm
 }

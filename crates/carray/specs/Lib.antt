@@ -1,4 +1,3 @@
 pub mod Numbers
 pub mod Addressed
 pub mod Writing
-pub mod Inside

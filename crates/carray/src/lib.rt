@@ -9,38 +9,35 @@ ghost use Rattle.carray.specs.Numbers.{NumbersBy};
 ghost use Rattle.carray.specs.Addressed.{addressed_of};
 ghost use Rattle.carray.specs.Writing.{ArrayWritten};
 
-use arrayreader::{address, read};
-use listing::list;
-use verdict::packed;
+use arrayreader::address;
+use verdict::Verdict;
 
-mod answers;
+mod fields;
 
 // The verdict on a string of bytes as an array pack.
 pub fn array_verdict(bytes: &[u8]) -> u64
     ensures { result ≡ packed_of (verdict_of bytes.now) }
 {
-    packed(arrayreader::verdict(bytes))
+    u64::from(arrayreader::verdict(bytes))
 }
 
 // NDim, eight sizes, E and the start of an array pack into eleven entries.
 pub fn array_fields(bytes: &[u8], fields: &mut [usize]) -> u64
     ensures { PackedBy (λ answer. NumbersBy bytes.now fields.old answer fields.new) result }
 {
-    let answer = read(bytes);
-    let numbers = answers::field_numbers(answer);
-    packed(list(answers::said(answer), &numbers, fields))
+    u64::from(Verdict::from(fields::list_fields(bytes, fields)))
 }
 
 // The offset of the element at these indices from the start of the array.
 pub fn array_address(bytes: &[u8], indices: &[usize]) -> u64
     ensures { result ≡ packed_of (addressed_of bytes.now indices.now) }
 {
-    packed(answers::offset_said(address(bytes, indices)))
+    u64::from(Verdict::from(address(bytes, indices)))
 }
 
 // The array pack of these sizes, this element size and this array.
 pub fn array_write(sizes: &[usize], element: usize, array: &[u8], out: &mut [u8]) -> u64
     ensures { PackedBy (λ answer. ArrayWritten sizes.now element array.now out.old answer out.new) result }
 {
-    packed(arraywriter::write(sizes, element, array, out))
+    u64::from(Verdict::from(arraywriter::write(sizes, element, array, out)))
 }

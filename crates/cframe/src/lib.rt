@@ -5,8 +5,8 @@ ghost use Rattle.std.specs.Prelude.{◌≡◌};
 ghost use Rattle.cframe.specs.Said.{said_of, FrameSaid};
 
 use frame::examine::examine;
-use outcome::{Outcome, letter_of};
-use verdict::{Verdict, packed};
+use outcome::Outcome;
+use verdict::Verdict;
 
 // What came of a frame, as a verdict.
 fn said(outcome: Outcome) -> Verdict
@@ -25,8 +25,6 @@ pub fn frame_verdict(bytes: &[u8], kind: &mut u8) -> u64
     ensures { FrameSaid bytes.now result kind.new }
 {
     let answer = examine(bytes);
-    let named = answer.kind;
-    let outcome = answer.outcome;
-    *kind = letter_of(named);
-    packed(said(outcome))
+    *kind = u8::from(answer.kind);
+    u64::from(said(answer.outcome))
 }

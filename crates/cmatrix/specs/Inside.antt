@@ -1,19 +1,20 @@
--- For private functions alone: the verdict of what reading answers, and seven numbers of every answer.
-use Rattle.std.specs.Prelude.{ℕ, List, replicate}
-use Rattle.verdict.specs.declared.Verdict.{Verdict}
-use Rattle.verdict.specs.declared.Verdict.TheVariants.{Complete, Unfinished, Refused}
-use Rattle.matrix.specs.Listed.{field_numbers}
-use Rattle.matrixreader.specs.declared.MatrixRead.{MatrixRead}
-use Rattle.matrixreader.specs.declared.MatrixRead.TheVariants.{Matrix, Unfinished as ReadUnfinished, Refused as ReadRefused}
+-- For private functions alone: what the numbers that C states and gives are taken for, or the refusal of others.
+use Rattle.std.specs.Prelude.{ℕ, cond, List, Result, Ok, Err, ltb}
+use Rattle.verdict.specs.declared.Reason.TheVariants.{Disagree}
+use Rattle.verdict.specs.declared.Refusal.{Refusal}
+use Rattle.matrix.specs.declared.Fields.{Fields}
+use Rattle.matrix.specs.declared.Told.{Told}
+use Rattle.cmatrix.specs.Format.{told_by}
+use Rattle.cmatrix.specs.Writing.{fields_given, fields_fit}
 
--- complete at the length, or what reading passes on
-abbrev pub said_by : MatrixRead → Verdict
-said_by (Matrix fields length) = Complete length
-said_by (ReadUnfinished missing) = Unfinished missing
-said_by (ReadRefused refusal) = Refused refusal
+-- 14
+abbrev pub disagreeing : Refusal
+disagreeing = record { reason = Disagree; place = 0 }
 
--- the fields of a complete pack, or seven that nobody gets
-abbrev pub numbers_in : MatrixRead → List ℕ
-numbers_in (Matrix fields length) = field_numbers fields
-numbers_in (ReadUnfinished missing) = replicate 7 0
-numbers_in (ReadRefused refusal) = replicate 7 0
+-- what a format tells
+abbrev pub told_for : ℕ → Result Told Refusal
+told_for format = cond (ltb 1 format) (Err disagreeing) (Ok (told_by format))
+
+-- the fields that numbers are
+abbrev pub fields_for : List ℕ → Result Fields Refusal
+fields_for numbers = cond (fields_fit numbers) (Ok (fields_given numbers)) (Err disagreeing)

@@ -3,57 +3,72 @@
 
 #![tactic(auto)]
 
-ghost use Rattle.std.specs.Prelude.{◌≡◌, ltb};
+ghost use Rattle.std.specs.Prelude.{◌≡◌};
+ghost use Rattle.verdict.specs.Answers.{said, written};
 ghost use Rattle.verdict.specs.Numbers.{packed_of};
 ghost use Rattle.listing.specs.Packed.{PackedBy};
-ghost use Rattle.cmatrix.specs.Format.{told_by, verdict_by, UnpackedUnder, ExpandedUnder};
+ghost use Rattle.cmatrix.specs.Format.{verdict_by, UnpackedUnder, ExpandedUnder};
 ghost use Rattle.cmatrix.specs.Fields.{FieldsBy};
+ghost use Rattle.cmatrix.specs.Inside.{told_for};
 ghost use Rattle.cmatrix.specs.Writing.{MatrixWritten};
 
+use crate::fields::{field_numbers, fields_given};
 use listing::list;
 use matrix::Told;
 use matrixreader::read;
-use verdict::{Reason, packed, refuse};
+use verdict::{Reason, Refusal, Stop, Verdict};
 
 mod fields;
 
-// Whether a number states no format.
-fn no_format(format: usize) -> bool
-    ensures { result ≡ ltb 1 format }
+// What a format tells the reader, or the refusal of a number that states none.
+fn told_by(format: usize) -> Result<Told, Refusal>
+    ensures { result ≡ told_for format }
 {
-    1 < format
-}
-
-// What a format tells the reader.
-fn told_by(format: usize) -> Told
-    ensures { result ≡ told_by format }
-{
-    Told {
+    if 1 < format {
+        return Err(Reason::Disagree.at(0));
+    }
+    Ok(Told {
         mode1: true,
         mapped: format == 1,
-    }
+    })
 }
 
 // The verdict on a string of bytes as a matrix pack.
 pub fn matrix_verdict(bytes: &[u8], format: usize) -> u64
     ensures { result ≡ packed_of (verdict_by format bytes.now) }
 {
-    if no_format(format) {
-        return packed(refuse(Reason::Disagree));
+    match told_by(format) {
+        Ok(told) => u64::from(matrixreader::verdict(bytes, told)),
+        Err(refusal) => u64::from(Verdict::Refused(refusal)),
     }
-    packed(matrixreader::verdict(bytes, told_by(format)))
+}
+
+fn list_fields(bytes: &[u8], format: usize, fields: &mut [usize]) -> Result<usize, Stop>
+    ensures { FieldsBy format bytes.now fields.old (said result) fields.new }
+{
+    let told = told_by(format)?;
+    let found = read(bytes, told)?;
+    list(Ok(found.length), &field_numbers(found.fields), fields)
 }
 
 // N, Cs, Cf, Clen, Sf, Slen and the mode of a matrix pack into seven entries.
 pub fn matrix_fields(bytes: &[u8], format: usize, fields: &mut [usize]) -> u64
     ensures { PackedBy (λ answer. FieldsBy format bytes.now fields.old answer fields.new) result }
 {
-    if no_format(format) {
-        return packed(refuse(Reason::Disagree));
-    }
-    let answer = read(bytes, told_by(format));
-    let numbers = fields::field_numbers(answer);
-    packed(list(fields::said(answer), &numbers, fields))
+    u64::from(Verdict::from(list_fields(bytes, format, fields)))
+}
+
+fn unpack_under(
+    bytes: &[u8],
+    format: usize,
+    deviations: &mut [u64],
+    coefficients: &mut [u64],
+    marks: &mut [u8],
+) -> Result<usize, Stop>
+    ensures { UnpackedUnder format bytes.now deviations.old coefficients.old marks.old (said result) deviations.new coefficients.new marks.new }
+{
+    let told = told_by(format)?;
+    unpack::unpack(bytes, told, deviations, coefficients, marks)
 }
 
 // N deviation words, M coefficient words and M marks of a matrix pack.
@@ -66,20 +81,41 @@ pub fn matrix_unpack(
 ) -> u64
     ensures { PackedBy (λ answer. UnpackedUnder format bytes.now deviations.old coefficients.old marks.old answer deviations.new coefficients.new marks.new) result }
 {
-    if no_format(format) {
-        return packed(refuse(Reason::Disagree));
-    }
-    packed(unpack::unpack(bytes, told_by(format), deviations, coefficients, marks))
+    u64::from(Verdict::from(unpack_under(bytes, format, deviations, coefficients, marks)))
+}
+
+fn expand_under(
+    bytes: &[u8],
+    format: usize,
+    words: &mut [u64],
+    marks: &mut [u8],
+) -> Result<usize, Stop>
+    ensures { ExpandedUnder format bytes.now words.old marks.old (said result) words.new marks.new }
+{
+    let told = told_by(format)?;
+    unpack::expand(bytes, told, words, marks)
 }
 
 // N × N words and marks of a matrix pack, by rows.
 pub fn matrix_expand(bytes: &[u8], format: usize, words: &mut [u64], marks: &mut [u8]) -> u64
     ensures { PackedBy (λ answer. ExpandedUnder format bytes.now words.old marks.old answer words.new marks.new) result }
 {
-    if no_format(format) {
-        return packed(refuse(Reason::Disagree));
-    }
-    packed(unpack::expand(bytes, told_by(format), words, marks))
+    u64::from(Verdict::from(expand_under(bytes, format, words, marks)))
+}
+
+fn write_given(
+    fields: &[usize],
+    format: usize,
+    deviations: &[u64],
+    coefficients: &[u64],
+    marks: &[u8],
+    out: &mut [u8],
+) -> Result<usize, Refusal>
+    ensures { MatrixWritten format fields.now deviations.now coefficients.now marks.now out.old (written result) out.new }
+{
+    let told = told_by(format)?;
+    let given = fields_given(fields)?;
+    matrixwriter::write(given, told.mapped, deviations, coefficients, marks, out)
 }
 
 // The matrix pack of seven fields, deviations, coefficients and marks.
@@ -93,18 +129,6 @@ pub fn matrix_write(
 ) -> u64
     ensures { PackedBy (λ answer. MatrixWritten format fields.now deviations.now coefficients.now marks.now out.old answer out.new) result }
 {
-    if no_format(format) {
-        return packed(refuse(Reason::Disagree));
-    }
-    if !fields::fields_fit(fields) {
-        return packed(refuse(Reason::Disagree));
-    }
-    packed(matrixwriter::write(
-        fields::fields_given(fields),
-        format == 1,
-        deviations,
-        coefficients,
-        marks,
-        out,
-    ))
+    let answer = write_given(fields, format, deviations, coefficients, marks, out);
+    u64::from(Verdict::from(answer))
 }

@@ -24,6 +24,7 @@ pub fn pairs_of(n: usize) -> usize
 }
 
 // How many bytes the size and the control bytes take.
+#[tactic(auto, unfolding(matrix::specs::Header::header_bytes))]
 pub fn header_bytes(f: Fields) -> usize
     ensures { result ≡ header_bytes f }
 {
@@ -41,12 +42,12 @@ pub fn vector_bytes(f: Fields) -> usize
 pub fn bit_of(flag: bool) -> usize
     ensures { result ≡ bit flag }
 {
-    if flag { 1 } else { 0 }
+    usize::from(flag)
 }
 
 // The mark of values that are all sent: 0 if they have no bytes.
 pub fn mark_of(length: usize) -> u8
     ensures { result ≡ min 1 length }
 {
-    if length == 0 { 0 } else { 1 }
+    u8::from(length != 0)
 }

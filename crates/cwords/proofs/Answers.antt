@@ -1,10 +1,10 @@
 -- What scaling answers and leaves: by the first rule that is broken, and where all words scale. Assumes nothing.
 use Prim.Native.Nat.{ℕ, zero, suc, ◌/◌, ◌^◌, ◌≤◌, ◌<◌}
 use mathlib.Core.Path.{◌≡◌, refl, sym, ap, ◌∙◌}
-use mathlib.Core.Bool.{Bool, true, false, not, ◌||◌, false≢true}
+use mathlib.Core.Bool.{Bool, true, false, not, ◌||◌}
 use mathlib.Core.List.{List, [], ◌∷◌}
 use native.Mathlib.Omega.{arith}
-use borrow.Author.Tests.{ne_eqb, lt-ltb, le-ltb, ltb-false, eqb-false}
+use borrow.Author.Tests.{ne_eqb, lt-ltb, le-ltb}
 use lib.Dec.{eqb, ltb}
 use lib.IntN.{ℤ, pos}
 use lib.ListN.{length, drop, get_or, length-map, get_or-append}
@@ -17,14 +17,10 @@ use Rattle.verdict.specs.Lent.{over, left_for}
 use Rattle.verdict.specs.Writing.{refusing, decided}
 use Rattle.word.specs.Many.{all_below}
 use Rattle.word.proofs.Gathered.{below_at}
-use Rattle.rule.specs.declared.scaled.Scaled.TheVariants.{Value}
+use Rattle.std.specs.Prelude.{Ok}
 use Rattle.rule.specs.Scaled.{scaled_of}
 use Rattle.rule.proofs.Signed.{scaled_value}
 use Rattle.cwords.specs.Scaling.{less, scaled_all, scale_rows, ScaledInto}
-
-neither : (a b : Bool) → a || b ≡ false → (a ≡ false) × (b ≡ false)
-neither false b e = (refl, e)
-neither true b e = absurd (false≢true (sym e))
 
 -- an entry of words that are scaled
 less_at : (n : ℕ) (words : List ℕ) (i : ℕ) → i < length words → get_or (scaled_all n words) i (pos 0) ≡ less n (get_or words i 0)
@@ -44,10 +40,6 @@ module _ (words : List ℕ) (n : ℕ) (out : List ℤ) where
   length_refused h = refused ValueLength (rw h)
 
   module _ (own : eqb n 0 || ltb 8 n ≡ false) where
-    pub own_length : (1 ≤ n) × (n ≤ 8)
-    own_length =
-        let both = neither (eqb n 0) (ltb 8 n) own in (omega (arith, eqb-false n 0 both.0), omega (arith, ltb-false 8 n both.1))
-
     pub word_refused : (all : Bool) → all ≡ all_below (suc (256 ^ n / 2)) words → not all ≡ true → ScaledInto words n out (refusing ValueRange) out
     unfolding decided
     word_refused all is h = refused ValueRange (rw (own, ← is, h))
@@ -83,13 +75,13 @@ module _ (words : List ℕ) (n : ℕ) (least : 1 ≤ n) (most : n ≤ 8) (all : 
     counted = length-map words (less n)
 
     -- each entry is what scaling its word gives
-    pub scaled_each : (i : ℕ) → i < length words → scaled_of (get_or words i 0) n ≡ Value (get_or out' i (pos 0))
+    pub scaled_each : (i : ℕ) → i < length words → scaled_of (get_or words i 0) n ≡ Ok (get_or out' i (pos 0))
     scaled_each i h =
         let at : get_or out' i (pos 0) ≡ less n (get_or words i 0) =
         ap (λ (l : List ℤ). get_or l i (pos 0)) stands
         ∙ get_or-append (scaled_all n words) (drop (length (scaled_all n words)) out) (pos 0) i (omega (arith, counted))
         ∙ less_at n words i h in
-        scaled_value (get_or words i 0) n least most (omega (arith, below_at (suc (256 ^ n / 2)) words all i h)) ∙ ap Value (sym at)
+        scaled_value (get_or words i 0) n least most (omega (arith, below_at (suc (256 ^ n / 2)) words all i h)) ∙ ap Ok (sym at)
 
     -- those behind them stay
     pub scaled_behind : drop (length words) out' ≡ drop (length words) out

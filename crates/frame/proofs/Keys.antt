@@ -1,4 +1,4 @@
--- A key is told by its two words of eight bytes. Assumes nothing.
+-- A key is told by its two words of eight bytes, and by its bytes. Assumes nothing.
 use Prim.Native.Nat.{ℕ, ◌≤◌, ◌<◌, ◌^◌}
 use mathlib.Core.Path.{◌≡◌, refl, sym, ap, ap₂, ◌∙◌}
 use mathlib.Core.Bool.{Bool, true, false, ◌&&◌, cond, false≢true, and-eq-true_iff}
@@ -6,6 +6,7 @@ use mathlib.Core.List.{List, [], ◌∷◌, ◌++◌}
 use native.Mathlib.Omega.{arith}
 use borrow.Author.Tests.{eq-eqb, eqb-true}
 use lib.Dec.{eqb}
+use Rattle.std.specs.Str.{bytes_eq}
 use lib.ListN.{length, take, drop, length-drop}
 use lib.Seq.{take-add, take_at, drop_at, length-take-le}
 use Rattle.verdict.proofs.Cases.{either}
@@ -82,3 +83,11 @@ module _ (bytes : List ℕ) (below : Below 256 bytes) (there : 16 ≤ length byt
       ap₂ (λ (matrix array : Bool). cond matrix Matrix (cond array Array Unknown))
       (same_words 0x060E2B3402050101 0x0E01030321000000 (omega arith) (omega arith))
       (same_words 0x060E2B3402050101 0x0E01030306000000 (omega arith) (omega arith))
+
+-- as the library compares them
+pub same_bytes : (xs ys : List ℕ) → same xs ys ≡ bytes_eq xs ys
+unfolding same
+same_bytes [] [] = refl
+same_bytes [] (y ∷ ys) = refl
+same_bytes (x ∷ xs) [] = refl
+same_bytes (x ∷ xs) (y ∷ ys) = rw (same_bytes xs ys)

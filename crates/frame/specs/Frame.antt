@@ -1,5 +1,5 @@
 -- What a frame's bytes are answered: the checks of document 01 in their order, then the pack's own verdict.
-use Rattle.std.specs.Prelude.{ℕ, ◌+◌, Bool, true, false, ◌&&◌, cond, List, [], ◌∷◌, length, take, drop, eqb, ltb}
+use Rattle.std.specs.Prelude.{ℕ, ◌+◌, Bool, true, false, ◌&&◌, cond, List, [], ◌∷◌, length, take, drop, eqb, ltb, Result, Ok as ResultOk, Err}
 use Rattle.verdict.specs.declared.Reason.TheVariants.{UnknownKey, LengthForm, LengthDiffers, FrameShort, FrameLong}
 use Rattle.verdict.specs.declared.Verdict.{Verdict}
 use Rattle.verdict.specs.declared.Verdict.TheVariants.{Complete, Unfinished, Refused}
@@ -13,7 +13,8 @@ use Rattle.outcome.specs.declared.Outcome.TheVariants.{Ok, Cut, Bad}
 use Rattle.outcome.specs.declared.FrameAnswer.{FrameAnswer}
 use Rattle.outcome.specs.Refusing.{refusing}
 use Rattle.berlength.specs.declared.Length.{Length}
-use Rattle.berlength.specs.declared.Length.TheVariants.{Missing, WrongForm, Of}
+use Rattle.berlength.specs.declared.NoLength.{NoLength}
+use Rattle.berlength.specs.declared.NoLength.TheVariants.{Missing, WrongForm}
 use Rattle.berlength.specs.Lengths.{length_of}
 
 -- the greatest count of a frame's bytes
@@ -56,10 +57,10 @@ value_answer Array value = record { kind = Array; outcome = outcome_of (arrayVer
 value_answer Unknown value = refusing Unknown UnknownKey
 
 -- behind a length of this form: 24 cut, 22 its form, 23 another count of bytes than it states
-abbrev pub length_answer : Kind → Length → List ℕ → FrameAnswer
-length_answer kind Missing w = refusing kind FrameShort
-length_answer kind WrongForm w = refusing kind LengthForm
-length_answer kind (Of value octets) w = cond (eqb (length w) (octets + value)) (value_answer kind (drop octets w)) (refusing kind LengthDiffers)
+abbrev pub length_answer : Kind → Result Length NoLength → List ℕ → FrameAnswer
+length_answer kind (Err Missing) w = refusing kind FrameShort
+length_answer kind (Err WrongForm) w = refusing kind LengthForm
+length_answer kind (ResultOk stated) w = cond (eqb (length w) (stated.octets + stated.value)) (value_answer kind (drop stated.octets w)) (refusing kind LengthDiffers)
 
 -- behind a key: 21 where it is not known
 abbrev pub key_answer : Kind → List ℕ → FrameAnswer

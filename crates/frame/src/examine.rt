@@ -1,32 +1,31 @@
 // A frame from bytes: the checks in their order, then the pack's own verdict.
-ghost use Rattle.std.specs.Prelude.{◌≡◌, ◌≤◌, ◌+◌, length, take};
+ghost use Rattle.std.specs.Prelude.{◌≡◌};
 ghost use Rattle.frame.specs.Frame.{kind_of, outcome_of, value_answer, length_answer, answer_of};
 ghost use Rattle.berlength.specs.Lengths.{length_of};
-ghost use Rattle.word.specs.Bytes.{word_at};
 
-use berlength::{Length, length_at};
+use berlength::{NoLength, length_at};
 use matrix::Told;
-use outcome::{FrameAnswer, Kind, Outcome, refuse};
-use verdict::{Reason, Refusal, Verdict};
-use word::bytes::{Read, read_at};
+use outcome::{FrameAnswer, Kind, Outcome};
+use verdict::{Reason, Verdict};
 
 // The greatest count of a frame's bytes.
 pub const LONGEST: usize = 32832;
+
+const MATRIX_KEY: [u8; 16] = [
+    0x06, 0x0E, 0x2B, 0x34, 0x02, 0x05, 0x01, 0x01, 0x0E, 0x01, 0x03, 0x03, 0x21, 0x00, 0x00, 0x00,
+];
+
+const ARRAY_KEY: [u8; 16] = [
+    0x06, 0x0E, 0x2B, 0x34, 0x02, 0x05, 0x01, 0x01, 0x0E, 0x01, 0x03, 0x03, 0x06, 0x00, 0x00, 0x00,
+];
 
 // A pack's verdict on a value of `count` bytes.
 fn outcome_of(verdict: Verdict, count: usize) -> Outcome
     ensures { result ≡ outcome_of verdict count }
 {
     match verdict {
-        Verdict::Complete(n) => {
-            if n == count {
-                return Outcome::Ok(n);
-            }
-            Outcome::Bad(Refusal {
-                reason: Reason::LengthDiffers,
-                place: 0,
-            })
-        }
+        Verdict::Complete(n) if n == count => Outcome::Ok(n),
+        Verdict::Complete(_) => Outcome::Bad(Reason::LengthDiffers.at(0)),
         Verdict::Unfinished(missing) => Outcome::Cut(missing),
         Verdict::Refused(refusal) => Outcome::Bad(refusal),
     }
@@ -42,16 +41,14 @@ const TOLD: Told = Told {
 fn from_value(kind: Kind, value: &[u8]) -> FrameAnswer
     ensures { result ≡ value_answer kind value.now }
 {
-    match kind {
-        Kind::Matrix => FrameAnswer {
-            kind: Kind::Matrix,
-            outcome: outcome_of(matrixreader::verdict(value, TOLD), value.len()),
-        },
-        Kind::Array => FrameAnswer {
-            kind: Kind::Array,
-            outcome: outcome_of(arrayreader::verdict(value), value.len()),
-        },
-        Kind::Unknown => refuse(Kind::Unknown, Reason::UnknownKey),
+    let verdict = match kind {
+        Kind::Matrix => matrixreader::verdict(value, TOLD),
+        Kind::Array => arrayreader::verdict(value),
+        Kind::Unknown => return Kind::Unknown.refuse(Reason::UnknownKey),
+    };
+    FrameAnswer {
+        kind,
+        outcome: outcome_of(verdict, value.len()),
     }
 }
 
@@ -59,45 +56,27 @@ fn from_value(kind: Kind, value: &[u8]) -> FrameAnswer
 fn from_length(kind: Kind, bytes: &[u8]) -> FrameAnswer
     ensures { result ≡ length_answer kind (length_of bytes.now) bytes.now }
 {
-    let length = length_at(bytes, 0);
-    match length {
-        Length::Missing => refuse(kind, Reason::FrameShort),
-        Length::WrongForm => refuse(kind, Reason::LengthForm),
-        Length::Of { value, octets } => {
-            if bytes.len() != octets + value {
-                return refuse(kind, Reason::LengthDiffers);
+    match length_at(bytes, 0) {
+        Err(NoLength::Missing) => kind.refuse(Reason::FrameShort),
+        Err(NoLength::WrongForm) => kind.refuse(Reason::LengthForm),
+        Ok(length) => {
+            if bytes.len() != length.octets + length.value {
+                return kind.refuse(Reason::LengthDiffers);
             }
-            from_value(kind, &bytes[octets..])
+            from_value(kind, &bytes[length.octets..])
         }
     }
 }
 
-// Eight bytes at a place, as a word.
-fn eight_at(bytes: &[u8], place: usize) -> u64
-    requires { place + 8 ≤ length bytes.now }
-    ensures { result ≡ word_at bytes.now place 8 }
+// The kind that a key names.
+#[tactic(auto, using(crate::proofs::Keys::same_bytes))]
+fn kind_of(key: &[u8; 16]) -> Kind
+    ensures { result ≡ kind_of key.now }
 {
-    let read = read_at(bytes, place, 8);
-    match read {
-        Read::Word(word) => word,
-        Read::Unfinished(_) => 0,
-        Read::Refused(_) => 0,
-    }
-}
-
-// The kind that a key names: its two halves as words.
-fn kind_of(bytes: &[u8]) -> Kind
-    requires { 16 ≤ length bytes.now }
-    ensures { result ≡ kind_of (take 16 bytes.now) }
-{
-    if eight_at(bytes, 0) != 0x060E2B3402050101 {
-        return Kind::Unknown;
-    }
-    let last = eight_at(bytes, 8);
-    if last == 0x0E01030321000000 {
+    if *key == MATRIX_KEY {
         return Kind::Matrix;
     }
-    if last == 0x0E01030306000000 {
+    if *key == ARRAY_KEY {
         return Kind::Array;
     }
     Kind::Unknown
@@ -108,15 +87,14 @@ pub fn examine(bytes: &[u8]) -> FrameAnswer
     ensures { result ≡ answer_of bytes.now }
 {
     if LONGEST < bytes.len() {
-        return refuse(Kind::Unknown, Reason::FrameLong);
+        return Kind::Unknown.refuse(Reason::FrameLong);
     }
-    if bytes.len() < 16 {
-        return refuse(Kind::Unknown, Reason::FrameShort);
-    }
-    let kind = kind_of(bytes);
-    match kind {
-        Kind::Matrix => from_length(Kind::Matrix, &bytes[16..]),
-        Kind::Array => from_length(Kind::Array, &bytes[16..]),
-        Kind::Unknown => refuse(Kind::Unknown, Reason::UnknownKey),
+    let Some((key, behind)) = bytes.split_first_chunk::<16>() else {
+        return Kind::Unknown.refuse(Reason::FrameShort);
+    };
+    match kind_of(key) {
+        Kind::Matrix => from_length(Kind::Matrix, behind),
+        Kind::Array => from_length(Kind::Array, behind),
+        Kind::Unknown => Kind::Unknown.refuse(Reason::UnknownKey),
     }
 }

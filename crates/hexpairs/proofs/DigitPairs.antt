@@ -1,14 +1,15 @@
 -- Laws of pairs of hexadecimal digits: which texts are such pairs, what a digit is worth, the bytes spelled so far, and what `decode` answers. Assumes nothing.
 use Prim.Native.Nat.{ℕ, suc, ◌+◌, ◌*◌, ◌/◌, ◌%◌, ◌≤◌, ◌<◌}
-use mathlib.Core.Path.{◌≡◌, refl, sym, ap, ap₂, ◌∙◌, subst}
-use mathlib.Core.Bool.{Bool, true, false, not, ◌&&◌, and-true, and-false, and_assoc, and-eq-true_iff}
+use mathlib.Core.Path.{◌≡◌, refl, sym, ap, ◌∙◌, subst}
+use mathlib.Core.Bool.{Bool, true, false, not, ◌&&◌, and-false, and_assoc, and-eq-true_iff}
 use mathlib.Core.List.{List, [], ◌∷◌, ◌++◌, append-nil}
+use Rattle.std.specs.List.{fold}
 use native.Mathlib.Numerals.{add-one}
 use native.Mathlib.Omega.{arith}
 use borrow.Author.Tests.{leb-true, le-leb, lt-leb, le-ltb}
 use lib.Dec.{leb}
-use lib.ListN.{length, take, drop, get_or, set, length-set, length-append, length-drop, take-append-drop, drop_of_length-le}
-use lib.Seq.{drop-cons, take-suc-set, drop-set-lt, append_snoc, take_at}
+use lib.ListN.{length, take, drop, get_or, set, length-append, length-drop}
+use lib.Seq.{drop-cons, take-suc-set, append_snoc, take_at, take_all}
 use Rattle.verdict.specs.declared.Reason.TheVariants.{Character, SmallBuffer}
 use Rattle.verdict.specs.declared.Verdict.{Verdict}
 use Rattle.verdict.specs.declared.Verdict.TheVariants.{Complete, Unfinished, Refused}
@@ -19,10 +20,17 @@ use Rattle.verdict.proofs.Deciding.{written_on, written_off, kept_written, room_
 use Rattle.verdict.proofs.Putting.{put_first}
 use Rattle.hexpairs.specs.Hex.{is_digit, digit_of, is_hex, hex_of, hex_rows, Decoded}
 
--- whether each character is a digit
-unfoldable pub all_digits : List ℕ → Bool
-all_digits [] = true
-all_digits (c ∷ text) = is_digit c && all_digits text
+-- whether each character is a digit, and `good`
+abbrev digits : Bool → List ℕ → Bool
+digits good text = fold (λ (t : Bool) (c : ℕ). t && is_digit c) good text
+
+digits_false : (text : List ℕ) → digits false text ≡ false
+digits_false [] = refl
+digits_false (c ∷ text) = digits_false text
+
+digits_first : (good : Bool) (text : List ℕ) → digits good text ≡ good && digits true text
+digits_first true text = refl
+digits_first false text = digits_false text
 
 pub odd_not_hex : (text : List ℕ) → length text % 2 ≡ 1 → is_hex text ≡ false
 unfolding is_hex
@@ -30,21 +38,11 @@ odd_not_hex [] h = absurd (omega arith)
 odd_not_hex (a ∷ []) h = refl
 odd_not_hex (a ∷ b ∷ text) h = simp (odd_not_hex text (omega arith), and-false)
 
-pub even_hex : (text : List ℕ) → length text % 2 ≡ 0 → is_hex text ≡ all_digits text
-unfolding is_hex all_digits
+pub even_hex : (text : List ℕ) → length text % 2 ≡ 0 → is_hex text ≡ fold (λ (good : Bool) (c : ℕ). good && is_digit c) true text
+unfolding is_hex
 even_hex [] h = refl
 even_hex (a ∷ []) h = absurd (omega arith)
-even_hex (a ∷ b ∷ text) h = rw (even_hex text (omega arith))
-
--- a digit more
-pub digits_more : (text : List ℕ) (i : ℕ) (good : Bool) → i < length text → good && all_digits (drop i text) ≡ good && is_digit (get_or text i 0) && all_digits (drop (i + 1) text)
-unfolding all_digits
-digits_more text i good h = rw (add-one, drop-cons text i 0 h) (sym (and_assoc good (is_digit (get_or text i 0)) (all_digits (drop (suc i) text))))
-
--- behind the last
-pub digits_all : (text : List ℕ) (i : ℕ) (good : Bool) → length text ≤ i → good && all_digits (drop i text) ≡ good
-unfolding all_digits
-digits_all text i good h = rw (drop_of_length-le text h, and-true)
+even_hex (a ∷ b ∷ text) h = rw (even_hex text (omega arith)) (sym (digits_first (is_digit a && is_digit b) text ∙ and_assoc (is_digit a) (is_digit b) (digits true text)))
 
 -- the decimal digits and the letters
 pub digit_ranges : {P : Type 0} (c : ℕ) → is_digit c ≡ true → (48 ≤ c → c ≤ 57 → P) → (65 ≤ c → c ≤ 70 → P) → P
@@ -85,17 +83,12 @@ pair_drop text i h =
     rw (e, add-one, drop-cons text (2 * i) 0 (omega arith), drop-cons text (suc (2 * i)) 0 (omega arith))
 
 -- the pairs before i are spelled in `out`
-pub record Spelled (text out₀ : List ℕ) (i : ℕ) (out : List ℕ) : Type 0 where
-  pub kept : length out ≡ length out₀
-  pub behind : drop (length text / 2) out ≡ drop (length text / 2) out₀
+pub record Spelled (text : List ℕ) (i : ℕ) (out : List ℕ) : Type 0 where
   pub pairs : is_hex (drop (2 * i) text) ≡ true
   pub means : hex_of text ≡ take i out ++ hex_of (drop (2 * i) text)
 
-module _ (text out₀ : List ℕ) where
-  pub spelled_none : is_hex text ≡ true → Spelled text out₀ 0 out₀
-  spelled_none h = record { kept = refl; behind = refl; pairs = h; means = refl }
-
-  module _ (i : ℕ) (out : List ℕ) (s : Spelled text out₀ i out) where
+module _ (text : List ℕ) where
+  module _ (i : ℕ) (out : List ℕ) (s : Spelled text i out) where
     module _ (within : i < length text / 2) where
       pub pair_digits : (is_digit (get_or text (2 * i) 0) ≡ true) × ((is_digit (get_or text (2 * i + 1) 0) ≡ true) × (is_hex (drop (2 * (i + 1)) text) ≡ true))
       unfolding is_hex
@@ -104,23 +97,17 @@ module _ (text out₀ : List ℕ) where
           let both = (and-eq-true_iff (is_digit (get_or text (2 * i) 0)) (is_digit (get_or text (2 * i + 1) 0) && is_hex (drop (2 * (i + 1)) text))).0 here in
           (both.0, (and-eq-true_iff (is_digit (get_or text (2 * i + 1) 0)) (is_hex (drop (2 * (i + 1)) text))).0 both.1)
 
-      pub spelled_more : (high low : ℕ) → high ≡ digit_of (get_or text (2 * i) 0) → low ≡ digit_of (get_or text (2 * i + 1) 0) → length text / 2 ≤ length out₀ → Spelled text out₀ (i + 1) (set out i (high * 16 + low))
+      pub spelled_more : (high low : ℕ) → high ≡ digit_of (get_or text (2 * i) 0) → low ≡ digit_of (get_or text (2 * i + 1) 0) → i < length out → Spelled text (i + 1) (set out i (high * 16 + low))
       unfolding hex_of
       spelled_more high low h l room =
           let byte = high * 16 + low in
-          let front : take (i + 1) (set out i byte) ≡ take i out ++ (byte ∷ []) = rw add-one (take-suc-set out i byte (omega (arith, s.kept))) in
-          record {
-            kept = length-set out i byte ∙ s.kept;
-            behind = drop-set-lt (length text / 2) out i byte within ∙ s.behind;
-            pairs = pair_digits.1.1;
-            means = s.means ∙ rw (pair_drop text i within, front, append_snoc, h, l);
-          }
+          let front : take (i + 1) (set out i byte) ≡ take i out ++ (byte ∷ []) = rw add-one (take-suc-set out i byte room) in
+          record { pairs = pair_digits.1.1; means = s.means ∙ rw (pair_drop text i within, front, append_snoc, h, l) }
 
-    pub spelled_all : i ≡ length text / 2 → out ≡ hex_of text ++ drop (length text / 2) out₀
-    spelled_all h =
+    pub spelled_all : i ≡ length text / 2 → length out ≡ i → out ≡ hex_of text
+    spelled_all h k =
         let none : hex_of (drop (2 * i) text) ≡ [] = hex_none (drop (2 * i) text) (rw length-drop (omega arith)) in
-        let front : hex_of text ≡ take i out = s.means ∙ rw (none, append-nil) in
-        sym (take-append-drop i out) ∙ ap₂ (λ (xs ys : List ℕ). xs ++ ys) (sym front) (ap (λ (n : ℕ). drop n out) h ∙ s.behind)
+        sym (s.means ∙ rw (none, append-nil, take_all i out (omega arith)))
 
 -- what `decode` answers: the text is no pairs of digits, its bytes have no room, or they are spelled
 module _ (text out : List ℕ) where

@@ -1,18 +1,17 @@
 -- Laws of the characters before the first LF. Assumes nothing.
 use Prim.Native.Nat.{ℕ, zero, suc, ◌≤◌, ◌<◌}
-use mathlib.Core.Path.{◌≡◌, refl, ap, ◌∙◌}
+use mathlib.Core.Path.{◌≡◌, refl, sym, ap, ◌∙◌}
 use mathlib.Core.Bool.{true, false}
 use mathlib.Core.List.{List, [], ◌∷◌}
 use native.Mathlib.Omega.{arith}
-use borrow.Author.Tests.{lt-ltb, le-ltb, eq-eqb, eqb-true}
+use borrow.Author.Tests.{eq-eqb, eqb-true}
 use lib.Dec.{eqb}
 use lib.ListN.{length, take, get_or}
 use lib.Seq.{length-take-le}
-use Rattle.verdict.specs.declared.Reason.TheVariants.{SmallBuffer}
 use Rattle.verdict.proofs.Cases.{either}
-use Rattle.lines.specs.declared.Taking.TheVariants.{Took, Refused}
-use Rattle.lines.specs.Taking.{longest_line, piece_of, kept_all, held_all, TakenBy}
-use Rattle.lines.specs.Searching.{Piece}
+use Rattle.std.specs.Prelude.{Option, None, Some, unwrap_or}
+use Rattle.memchr.specs.Find.{IsFirstByte, is_byte}
+use Rattle.lines.specs.Taking.{piece_of}
 
 -- none before LF, and one more of any other character
 pub piece_none : (c : ℕ) (chunk : List ℕ) → eqb c 10 ≡ true → piece_of (c ∷ chunk) ≡ []
@@ -44,21 +43,20 @@ searched (c ∷ chunk) zero h none stops = rw (eq-eqb c 10 (stops (omega arith))
 searched (c ∷ chunk) (suc to) h none stops =
     rw (none 0 (omega arith)) (ap (λ (l : List ℕ). c ∷ l) (searched chunk to (omega arith) (λ i l. none (suc i) (omega arith)) (λ l. stops (omega arith))))
 
-module _ (chunk : List ℕ) (to : ℕ) (p : Piece chunk to) where
-  pub found : piece_of chunk ≡ take to chunk
-  found = searched chunk to p.clear.within (λ i l. p.clear.none i (omega arith) l) p.stops
+found_count : (chunk : List ℕ) (to : ℕ) → to ≤ length chunk → ((i : ℕ) → i < to → eqb (get_or chunk i 0) 10 ≡ false) → (to < length chunk → get_or chunk to 0 ≡ 10) → length (piece_of chunk) ≡ to
+found_count chunk to h none stops = ap length (searched chunk to h none stops) ∙ length-take-le to chunk h
 
-  pub found_count : length (piece_of chunk) ≡ to
-  found_count = ap length found ∙ length-take-le to chunk p.clear.within
+no_end : (chunk : List ℕ) (i : ℕ) → (is_byte 10 (get_or chunk i 0) ≡ true → ⊥) → eqb (get_or chunk i 0) 10 ≡ false
+no_end chunk i h = either (eqb (get_or chunk i 0) 10) (λ e. absurd (h e)) (λ e. e)
 
--- ---- what taking them answers and leaves
+-- as by one for any byte
+pub end_found : (chunk : List ℕ) (place : Option ℕ) → IsFirstByte (is_byte 10) chunk place → unwrap_or place (length chunk) ≡ length (piece_of chunk)
+end_found chunk None h = sym (found_count chunk (length chunk) (omega arith) (λ i l. no_end chunk i (h i (omega arith) l)) (λ l. absurd (omega arith)))
+end_found chunk (Some k) h =
+    sym (found_count chunk k (omega (arith, h.0.high)) (λ i l. no_end chunk i (h.0.before i (omega arith) l)) (λ l. eqb-true (get_or chunk k 0) 10 h.1))
 
-module _ (held : ℕ) (chunk buffer : List ℕ) where
-  pub piece_refused : length buffer < longest_line → TakenBy held chunk buffer (Refused (record { reason = SmallBuffer; place = 0 })) buffer
-  piece_refused h = let t = lt-ltb (length buffer) longest_line h in record { said = rw t; left = rw t }
-
-  pub piece_taken : longest_line ≤ length buffer → (to held' : ℕ) (buffer' : List ℕ) → Piece chunk to → buffer' ≡ kept_all buffer held (take to chunk) → held' ≡ held_all held to
-      → TakenBy held chunk buffer (Took held' to) buffer'
-  piece_taken l to held' buffer' p b h =
-      let t = le-ltb (length buffer) longest_line l in
-      record { said = rw (t, found_count chunk to p, h); left = rw (t, found chunk to p) b }
+-- they are the chunk's front
+pub piece_front : (chunk : List ℕ) → take (length (piece_of chunk)) chunk ≡ piece_of chunk
+unfolding piece_of
+piece_front [] = refl
+piece_front (c ∷ chunk) = either (eqb c 10) (λ e. rw e) (λ e. rw (e, piece_front chunk))

@@ -1,8 +1,8 @@
 -- What taking the characters of a chunk up to LF answers and leaves: they are kept in the line buffer, behind those of the open line that are held.
-use Rattle.std.specs.Prelude.{ℕ, zero, suc, ◌+◌, min, ◌≡◌, Bool, cond, List, [], ◌∷◌, length, set, eqb, ltb}
+use Rattle.std.specs.Prelude.{ℕ, zero, suc, ◌+◌, min, ◌≡◌, Bool, cond, List, [], ◌∷◌, length, set, eqb, ltb, Result, Ok, Err}
 use Rattle.verdict.specs.declared.Reason.TheVariants.{SmallBuffer}
-use Rattle.lines.specs.declared.Taking.{Taking}
-use Rattle.lines.specs.declared.Taking.TheVariants.{Took, Refused}
+use Rattle.verdict.specs.declared.Refusal.{Refusal}
+use Rattle.lines.specs.declared.Taken.{Taken}
 
 -- the greatest count of a line's characters
 abbrev pub longest_line : ℕ
@@ -36,6 +36,6 @@ abbrev pub short : List ℕ → Bool
 short buffer = ltb (length buffer) longest_line
 
 -- the characters before the first LF are taken and kept; 13 for a short line buffer, which is as it was
-pub record TakenBy (held : ℕ) (chunk buffer : List ℕ) (answer : Taking) (buffer' : List ℕ) : Type 0 where
-  pub said : answer ≡ cond (short buffer) (Refused (record { reason = SmallBuffer; place = 0 })) (Took (held_all held (length (piece_of chunk))) (length (piece_of chunk)))
+pub record TakenBy (held : ℕ) (chunk buffer : List ℕ) (answer : Result Taken Refusal) (buffer' : List ℕ) : Type 0 where
+  pub said : answer ≡ cond (short buffer) (Err (record { reason = SmallBuffer; place = 0 })) (Ok (record { held = held_all held (length (piece_of chunk)); count = length (piece_of chunk) }))
   pub left : buffer' ≡ cond (short buffer) buffer (kept_all buffer held (piece_of chunk))

@@ -1,74 +1,27 @@
 // Lines from the characters of an input that comes in chunks: the open line is held in a lent line buffer.
 #![tactic(auto)]
 
-ghost use Rattle.std.specs.Prelude.{◌≡◌, true, ◌+◌, ◌-◌, ◌≤◌, min, length};
-ghost use Rattle.lines.specs.Taking.{longest_line, kept_all, held_all, TakenBy};
-ghost use Rattle.lines.specs.Searching.{Clear, Piece};
+ghost use Rattle.std.specs.Prelude.{◌≡◌, ◌≤◌, length};
+ghost use Rattle.lines.specs.Taking.{longest_line, piece_of, kept_all, held_all, TakenBy};
 
-use verdict::{Reason, Refusal, lesser};
+use memchr::memchr;
+use verdict::{Reason, Refusal};
 
 // The greatest count of a line's characters, which a line buffer holds.
 pub const LINE: usize = 65664;
 
-// What taking characters answers: how many of the open line's are held now, more than `LINE` where it ran over, and how many were taken; or 13.
-#[derive(Clone, Copy, Drop)]
-pub enum Taking {
-    Took { held: usize, count: usize },
-    Refused(Refusal),
-}
-
-// Whether no LF stands in so many characters; each is looked at, so that the loop has no branch.
-fn no_end(chunk: &[u8], from: usize, size: usize) -> bool
-    requires { from + size ≤ length chunk.now }
-    ensures { result ≡ true → Clear chunk.now from (from + size) }
-{
-    let mut none = true;
-    let mut i = 0;
-    while i < size {
-        none = none & (chunk[from + i] != 10);
-        i += 1;
-    }
-    none
-}
-
-// Past blocks of so many characters without LF.
-fn pass_blocks(chunk: &[u8], from: usize, size: usize) -> usize
-    requires { (1 ≤ size) × (from ≤ length chunk.now) }
-    ensures { Clear chunk.now from result }
-{
-    let mut to = from;
-    while size <= chunk.len() - to {
-        if !no_end(chunk, to, size) {
-            return to;
-        }
-        to += size;
-    }
-    to
+// How many of the open line's characters are held now, more than `LINE` where it ran over, and how many were taken.
+#[derive(Clone, Copy, PartialEq, Eq)]
+pub struct Taken {
+    pub held: usize,
+    pub count: usize,
 }
 
 // The place of the first LF, or the chunk's end.
 fn piece_end(chunk: &[u8]) -> usize
-    ensures { Piece chunk.now result }
+    ensures { result ≡ length (piece_of chunk.now) }
 {
-    let large = pass_blocks(chunk, 0, 32);
-    let mut to = pass_blocks(chunk, large, 8);
-    while to < chunk.len() {
-        if chunk[to] == 10 {
-            return to;
-        }
-        to += 1;
-    }
-    to
-}
-
-// How many of `count` characters more have room in the line buffer.
-fn room_for(held: usize, count: usize) -> usize
-    ensures { result ≡ min count (longest_line - held) }
-{
-    if LINE <= held {
-        return 0;
-    }
-    lesser(count, LINE - held)
+    memchr(b'\n', chunk).unwrap_or(chunk.len())
 }
 
 // How many characters are held with `count` more.
@@ -78,13 +31,7 @@ fn held_with(held: usize, count: usize) -> usize
     if count == 0 {
         return held;
     }
-    if LINE < held {
-        return LINE + 1;
-    }
-    if LINE - held < count {
-        return LINE + 1;
-    }
-    held + count
+    held.saturating_add(count).min(LINE + 1)
 }
 
 // Keeps a piece of the chunk behind what is held.
@@ -92,28 +39,24 @@ fn keep(line: &mut [u8], held: usize, piece: &[u8])
     requires { longest_line ≤ length line.old }
     ensures { line.new ≡ kept_all line.old held piece.now }
 {
-    let count = room_for(held, piece.len());
-    let mut i = 0;
-    while i < count {
-        line[held + i] = piece[i];
-        i += 1;
+    if LINE <= held {
+        return;
     }
+    let count = piece.len().min(LINE - held);
+    line[held..held + count].copy_from_slice(&piece[..count]);
 }
 
-// Takes the characters of the chunk before its first LF, all where it has none, and keeps them in the line buffer behind those that are held.
-pub fn take_piece(held: usize, chunk: &[u8], line: &mut [u8]) -> Taking
+// Takes the characters of the chunk before its first LF, all where it has none, and keeps them in the line buffer behind those that are held; or 13.
+pub fn take_piece(held: usize, chunk: &[u8], line: &mut [u8]) -> Result<Taken, Refusal>
     ensures { TakenBy held chunk.now line.old result line.new }
 {
     if line.len() < LINE {
-        return Taking::Refused(Refusal {
-            reason: Reason::SmallBuffer,
-            place: 0,
-        });
+        return Err(Reason::SmallBuffer.at(0));
     }
     let count = piece_end(chunk);
     keep(line, held, &chunk[..count]);
-    Taking::Took {
+    Ok(Taken {
         held: held_with(held, count),
         count,
-    }
+    })
 }

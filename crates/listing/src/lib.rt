@@ -1,27 +1,24 @@
-// Numbers listed in a lent list, by the verdict on the pack whose they are.
+// Numbers listed in a lent list, by the answer for the pack whose they are.
 #![tactic(auto)]
 
+ghost use Rattle.verdict.specs.Answers.{said};
 ghost use Rattle.listing.specs.Listed.{ListedBy};
 
-use verdict::{Reason, Verdict, refuse};
+use verdict::{Reason, Stop};
 
-// The numbers of a complete pack over the first entries of a list, or 13; any other verdict is passed on.
-pub fn list(verdict: Verdict, numbers: &[usize], out: &mut [usize]) -> Verdict
-    ensures { ListedBy verdict numbers.now out.old result out.new }
+// The numbers of a complete pack over the first entries of a list, or 13; any other answer is passed on.
+pub fn list(
+    answer: Result<usize, Stop>,
+    numbers: &[usize],
+    out: &mut [usize],
+) -> Result<usize, Stop>
+    ensures { ListedBy (said answer) numbers.now out.old (said result) out.new }
 {
-    match verdict {
-        Verdict::Complete(length) => {
-            if out.len() < numbers.len() {
-                return refuse(Reason::SmallBuffer);
-            }
-            let mut i = 0;
-            while i < numbers.len() {
-                out[i] = numbers[i];
-                i += 1;
-            }
-            Verdict::Complete(length)
-        }
-        Verdict::Unfinished(missing) => Verdict::Unfinished(missing),
-        Verdict::Refused(refusal) => Verdict::Refused(refusal),
+    let length = answer?;
+    let count = numbers.len();
+    if out.len() < count {
+        return Err(Stop::Refused(Reason::SmallBuffer.at(0)));
     }
+    out[..count].copy_from_slice(numbers);
+    Ok(length)
 }

@@ -13,18 +13,18 @@ use Rattle.verdict.specs.declared.Refusal.{Refusal}
 use Rattle.verdict.specs.declared.Verdict.TheVariants.{Refused}
 use Rattle.verdict.specs.Machine.{Move, on, bad}
 use Rattle.verdict.specs.Reaching.{led}
-use Rattle.verdict.specs.declared.Judged.TheVariants.{Kept as JudgedKept, Broken}
+use Rattle.std.specs.Prelude.{Ok, Err}
 use Rattle.verdict.specs.Judgement.{judgement}
 use Rattle.matrix.specs.Machine.{State, word, Run, enter, step, least}
 use Rattle.matrix.specs.Reached.{verdict_at, verdict_behind}
 use Rattle.matrix.proofs.Reasons.{enter_word_lem}
 
-judged_broken : (rows : List Row) (next : Move State) (reason : Reason) → judgement rows ≡ Broken reason → judged rows next ≡ bad reason
+judged_broken : (rows : List Row) (next : Move State) (reason : Reason) → judgement rows ≡ Err reason → judged rows next ≡ bad reason
 unfolding judged
 judged_broken [] next reason e = let z : ◌≡◌ {A = ℕ} 0 1 = cc in absurd (omega arith)
 judged_broken (row ∷ rows) next reason e = go row.broken e (judged_broken rows next reason)
   where
-    go : (t : Bool) → cond t (Broken row.reason) (judgement rows) ≡ Broken reason → (judgement rows ≡ Broken reason → judged rows next ≡ bad reason) → cond t (bad row.reason) (judged rows next) ≡ bad reason
+    go : (t : Bool) → cond t (Err row.reason) (judgement rows) ≡ Err reason → (judgement rows ≡ Err reason → judged rows next ≡ bad reason) → cond t (bad row.reason) (judged rows next) ≡ bad reason
     go true h f = cc
     go false h f = f h
 
@@ -34,10 +34,10 @@ unfolding led
 behind_on s bytes place = refl
 
 module _ (rows : List Row) (next : Move State) (bytes : List ℕ) (place : ℕ) where
-  pub behind_kept : judgement rows ≡ JudgedKept → verdict_behind (judged rows next) bytes place ≡ verdict_behind next bytes place
+  pub behind_kept : judgement rows ≡ Ok tt → verdict_behind (judged rows next) bytes place ≡ verdict_behind next bytes place
   behind_kept e = rw (judged_kept rows next (judgement_kept rows e))
 
-  pub behind_broken : (reason : Reason) → judgement rows ≡ Broken reason → verdict_behind (judged rows next) bytes place ≡ Refused (record { reason = reason; place = place - 1 })
+  pub behind_broken : (reason : Reason) → judgement rows ≡ Err reason → verdict_behind (judged rows next) bytes place ≡ Refused (record { reason = reason; place = place - 1 })
   unfolding led
   behind_broken reason e = rw (judged_broken rows next reason e)
 

@@ -1,15 +1,15 @@
 -- Marks and words that fit, one more at a time. Assumes nothing.
 use Prim.Native.Nat.{ℕ, zero, suc, ◌+◌, ◌*◌, ◌≤◌, ◌<◌, min}
-use mathlib.Core.Path.{◌≡◌, refl, sym, ap, ap₂, subst, ◌∙◌}
+use mathlib.Core.Path.{◌≡◌, refl, sym, ap, ap₂, ◌∙◌}
 use mathlib.Core.Bool.{Bool, true, false, not, ◌&&◌, ◌||◌, cond, and-true, and-false, and_assoc}
 use mathlib.Core.List.{List, [], ◌∷◌}
 use native.Mathlib.Numerals.{add-one}
 use native.Mathlib.Omega.{arith}
-use borrow.Author.Tests.{not-true, not-false, le-leb, lt-leb, leb-true, leb-false}
+use borrow.Author.Tests.{not-false, le-leb, lt-leb, leb-true, leb-false}
 use lib.Bits.{bit_and, bit_or, or_lt}
 use lib.Dec.{eqb, leb}
-use lib.ListN.{length, take, drop, get_or, replicate, length-replicate, get_or-replicate}
-use lib.Seq.{length-take-le, get_or-take}
+use lib.ListN.{length, take, drop, get_or, replicate, length-take, length-replicate}
+use lib.Seq.{length-take-le}
 use Rattle.rule.specs.declared.rules.Rule.{Rule}
 use Rattle.rule.specs.Rules.{admitted, cleared}
 use Rattle.word.specs.Many.{gathered}
@@ -18,10 +18,11 @@ use Rattle.verdict.proofs.Cases.{by_test, either}
 use Rattle.matrix.specs.declared.Fields.{Fields}
 use Rattle.matrix.specs.Meaning.{sum}
 use Rattle.matrix.proofs.BitVector.{sum_same}
-use Rattle.matrixcheck.specs.declared.check.Marked.TheVariants.{Fit, Unfit}
+use Rattle.std.specs.Prelude.{Some}
+use Rattle.std.specs.List.{fold, list_all, sum as total, zip}
 use Rattle.matrixcheck.specs.Marking.{marked_of}
 use Rattle.matrixcheck.specs.Given.{deviation_marks, mark_fits, marks_fit, sent_fit}
-use Rattle.matrixcheck.proofs.Entries.{next_entry, marks_fitting, mark_between}
+use Rattle.matrixcheck.proofs.Entries.{marks_fitting, mark_between, keeps_sent}
 
 pub marks_fit_more : (f : Fields) (marks : List ℕ) (i : ℕ) → i < length marks → marks_fit f (take (suc i) marks) ≡ marks_fit f (take i marks) && mark_fits f (get_or marks i 0)
 unfolding marks_fit
@@ -77,85 +78,54 @@ module _ (f : Fields) (marks : List ℕ) (fit : marks_fit f marks ≡ true) wher
   full_marks full =
       all_same (min 1 f.clen) marks (λ i h. let b = mark_between f (get_or marks i 0) (marks_fitting f marks fit i h) in omega (arith, b.1, rw full at b.0))
 
-  pub no_marks : f.clen ≡ 0 → marks ≡ replicate (length marks) 0
-  no_marks none = all_same 0 marks (λ i h. omega (arith, (mark_between f (get_or marks i 0) (marks_fitting f marks fit i h)).1, none))
+-- the sum of marks, by std's fold
+sum_folded : (k : ℕ) (marks : List ℕ) → fold (λ a x. a + x) k marks ≡ k + sum marks
+unfolding sum
+sum_folded k [] = omega arith
+sum_folded k (mark ∷ marks) = omega (arith, sum_folded (k + mark) marks)
 
--- all the marks were tested
-module _ (f : Fields) (marks : List ℕ) (count : ℕ) (fit : Bool) (tested : fit ≡ marks_fit f (take count marks)) where
-  pub marked_unfit : not fit ≡ true → Unfit ≡ marked_of f (take count marks)
-  marked_unfit t = rw (← tested, not-true fit t)
+-- the marks that fit of a sparse matrix are counted
+pub marked_sum : (f : Fields) (marks : List ℕ) (fit : Bool) → fit ≡ marks_fit f marks → not fit ≡ false → Some (total marks) ≡ marked_of f marks
+marked_sum f marks fit tested t =
+    let fits : marks_fit f marks ≡ true = sym tested ∙ not-false fit t in
+    rw fits (ap Some (sum_folded 0 marks ∙ omega arith))
 
-  pub marked_fit : not fit ≡ false → (sent : ℕ) → sent ≡ sum (take count marks) → Fit sent ≡ marked_of f (take count marks)
-  marked_fit t sent e = rw (← tested, not-false fit t, e)
-
-  pub marked_full : not fit ≡ false → count ≤ length marks → f.cs ≡ false → (mark : ℕ) → mark ≡ min 1 f.clen → Fit (count * mark) ≡ marked_of f (take count marks)
-  marked_full t room full mark e =
-      let ms = take count marks in
-      let same = full_marks f ms (sym tested ∙ not-false fit t) full in
-      let l : length (take count marks) ≡ count = length-take-le count marks room in
-      marked_fit t (count * mark) (rw e (sym (ap sum same ∙ sum_same (length ms) (min 1 f.clen) ∙ ap (λ (k : ℕ). k * min 1 f.clen) l)))
-
--- what the marks were found to be
-module _ (f : Fields) (marks : List ℕ) where
-  pub fit_marked : (sent : ℕ) → marked_of f marks ≡ Fit sent → (marks_fit f marks ≡ true) × (sent ≡ sum marks)
-  fit_marked sent = go (marks_fit f marks)
-    where
-      go : (t : Bool) → cond t (Fit (sum marks)) Unfit ≡ Fit sent → (t ≡ true) × (sent ≡ sum marks)
-      go true e = (refl, cc)
-      go false e = let z : ◌≡◌ {A = ℕ} 0 1 = cc in absurd (omega arith)
-
-  pub unfit_marked : marked_of f marks ≡ Unfit → marks_fit f marks ≡ false
-  unfit_marked = go (marks_fit f marks)
-    where
-      go : (t : Bool) → cond t (Fit (sum marks)) Unfit ≡ Unfit → t ≡ false
-      go true e = let z : ◌≡◌ {A = ℕ} 0 1 = cc in absurd (omega arith)
-      go false e = refl
+-- of a full matrix all marks are the same
+pub marked_full : (f : Fields) (marks : List ℕ) (fit : Bool) → fit ≡ marks_fit f marks → not fit ≡ false → f.cs ≡ false → (mark : ℕ) → mark ≡ min 1 f.clen → Some (length marks * mark) ≡ marked_of f marks
+marked_full f marks fit tested t full mark e =
+    let fits : marks_fit f marks ≡ true = sym tested ∙ not-false fit t in
+    rw (fits, e) (ap Some (sym (ap sum (full_marks f marks fits full) ∙ sum_same (length marks) (min 1 f.clen))))
 
 module _ (rule : Rule) where
   unsigned_cleared : rule.sign ≡ 0 → (word : ℕ) → cleared rule.sign word ≡ word
   unsigned_cleared e word = rw (e, le-leb 0 word (omega arith)) (omega arith)
 
-  pub sent_fit_more : (marks words : List ℕ) (i : ℕ) → i < length marks → sent_fit rule (take (suc i) marks) words ≡ sent_fit rule (take i marks) words && (eqb (get_or marks i 0) 0 || admitted rule (get_or words i 0))
+  -- where all are sent each is tested
+  pub all_tested : (words : List ℕ) → list_all (admitted rule) words ≡ sent_fit rule (replicate (length words) 1) words
   unfolding sent_fit
-  sent_fit_more [] words i h = absurd (omega arith)
-  sent_fit_more (mark ∷ marks) words zero h = and-true (eqb mark 0 || admitted rule (get_or words 0 0))
-  sent_fit_more (mark ∷ marks) words (suc i) h = rw (sent_fit_more marks (drop 1 words) i (omega arith), next_entry words i, and_assoc (eqb mark 0 || admitted rule (get_or words 0 0)))
+  all_tested [] = refl
+  all_tested (word ∷ words) = ap (λ (t : Bool). admitted rule word && t) (all_tested words)
 
-  -- one word more keeps the rule
-  pub sent_fit_next : (marks words : List ℕ) (i : ℕ) → i < length marks → true ≡ sent_fit rule (take i marks) words → eqb (get_or marks i 0) 0 || admitted rule (get_or words i 0) ≡ true → true ≡ sent_fit rule (take (i + 1) marks) words
-  sent_fit_next marks words i h e k = rw (add-one, sent_fit_more marks words i h, ← e, k)
-
-  -- one that does not
-  pub sent_broken : (marks words : List ℕ) (i : ℕ) → i < length marks → eqb (get_or marks i 0) 0 || admitted rule (get_or words i 0) ≡ false → false ≡ sent_fit rule marks words
+  -- with marks beside them, those that are sent
+  pub marked_tested : (marks words : List ℕ) → length words ≡ length marks → list_all (λ p. eqb p.0 0 || admitted rule p.1) (zip marks words) ≡ sent_fit rule marks words
   unfolding sent_fit
-  sent_broken [] words i h e = absurd (omega arith)
-  sent_broken (mark ∷ marks) words zero h e = rw e
-  sent_broken (mark ∷ marks) words (suc i) h e =
-      rw (← sent_broken marks (drop 1 words) i (omega arith) (rw (next_entry words i) e)) (sym (and-false (eqb mark 0 || admitted rule (get_or words 0 0))))
+  marked_tested [] words l = refl
+  marked_tested (mark ∷ marks) [] l = absurd (omega arith)
+  marked_tested (mark ∷ marks) (word ∷ words) l = ap (λ (t : Bool). (eqb mark 0 || admitted rule word) && t) (marked_tested marks words (omega arith))
 
-  -- all are sent
-  pub all_fit_more : (i : ℕ) (words : List ℕ) → sent_fit rule (replicate (suc i) 1) words ≡ sent_fit rule (replicate i 1) words && admitted rule (get_or words i 0)
+  -- words past the marks are not tested
+  pub sent_front : (marks words : List ℕ) (n : ℕ) → length marks ≤ n → sent_fit rule marks (take n words) ≡ sent_fit rule marks words
   unfolding sent_fit
-  all_fit_more zero words = and-true (admitted rule (get_or words 0 0))
-  all_fit_more (suc i) words = rw (all_fit_more i (drop 1 words), next_entry words i, and_assoc (admitted rule (get_or words 0 0)))
-
-  pub all_fit_next : (words : List ℕ) (i : ℕ) → true ≡ sent_fit rule (replicate i 1) words → admitted rule (get_or words i 0) ≡ true → true ≡ sent_fit rule (replicate (i + 1) 1) words
-  all_fit_next words i e k = rw (add-one, all_fit_more i words, ← e, k)
-
-  all_keep : (words : List ℕ) (count : ℕ) → ((i : ℕ) → i < count → admitted rule (get_or words i 0) ≡ true) → sent_fit rule (replicate count 1) words ≡ true
-  unfolding sent_fit
-  all_keep words zero h = refl
-  all_keep words (suc count) h = rw (all_fit_more count words, all_keep words count (λ i l. h i (omega arith)), h count (omega arith))
-
-  pub all_broken : (words : List ℕ) (i count : ℕ) → i < count → admitted rule (get_or words i 0) ≡ false → false ≡ sent_fit rule (replicate count 1) words
-  all_broken words i count h e = sent_broken (replicate count 1) words i (rw length-replicate h) (rw (get_or-replicate {A = ℕ} count i 1 0 h) e)
+  sent_front [] words n h = refl
+  sent_front (mark ∷ marks) words zero h = absurd (omega arith)
+  sent_front (mark ∷ marks) [] (suc n) h = refl
+  sent_front (mark ∷ marks) (word ∷ words) (suc n) h = ap (λ (t : Bool). (eqb mark 0 || admitted rule word) && t) (sent_front marks words n (omega arith))
 
   -- without a sign, words keep the rule where all their bits together do
-  pub gathered_keeps : rule.sign ≡ 0 → (words : List ℕ) (count : ℕ) → count ≤ length words → admitted rule (gathered (take count words)) ≡ true → true ≡ sent_fit rule (replicate count 1) words
-  gathered_keeps plain words count room e =
-      let most : gathered (take count words) ≤ rule.greatest = leb-true (gathered (take count words)) rule.greatest (rw (unsigned_cleared plain (gathered (take count words))) at e) in
-      sym (all_keep words count (λ i h. rw (unsigned_cleared plain (get_or words i 0)) (le-leb (get_or words i 0) rule.greatest
-      (omega (arith, most, subst (λ (w : ℕ). w ≤ gathered (take count words)) (get_or-take count words i 0 h) (gathered_most (take count words) i))))))
+  pub gathered_keeps : rule.sign ≡ 0 → (words : List ℕ) → admitted rule (gathered words) ≡ true → true ≡ sent_fit rule (replicate (length words) 1) words
+  gathered_keeps plain words e =
+      let most : gathered words ≤ rule.greatest = leb-true (gathered words) rule.greatest (rw (unsigned_cleared plain (gathered words)) at e) in
+      sym (keeps_sent rule (replicate (length words) 1) words (λ i h ne. rw (unsigned_cleared plain (get_or words i 0)) (omega (arith, most, gathered_most words i))))
 
   -- none is sent
   pub none_fit : (n : ℕ) (words : List ℕ) → sent_fit rule (replicate n 0) words ≡ true
@@ -163,24 +133,25 @@ module _ (rule : Rule) where
   none_fit zero words = refl
   none_fit (suc n) words = none_fit n (drop 1 words)
 
--- coefficients without bytes all fit
-pub no_coefficients_fit : (f : Fields) (rule : Rule) (marks coefficients : List ℕ) → marks_fit f marks ≡ true → f.clen ≡ 0 → true ≡ sent_fit rule marks coefficients
-no_coefficients_fit f rule marks coefficients fit e = sym (ap (λ (ms : List ℕ). sent_fit rule ms coefficients) (no_marks f marks fit e) ∙ none_fit rule (length marks) coefficients)
+-- words that are all sent where they have bytes
+module _ (rule : Rule) (words : List ℕ) (bytes : ℕ) where
+  pub words_none : bytes ≡ 0 → true ≡ sent_fit rule (replicate (length words) (min 1 bytes)) words
+  words_none e = rw e (sym (none_fit rule (length words) words))
 
--- those of a full matrix with bytes are all sent
-pub all_coefficients_fit : (f : Fields) (rule : Rule) (marks coefficients : List ℕ) (count : ℕ) (keep : Bool) → marks_fit f (take count marks) ≡ true → count ≤ length marks → f.cs ≡ false → 1 ≤ f.clen
-    → keep ≡ sent_fit rule (replicate count 1) coefficients → keep ≡ sent_fit rule (take count marks) coefficients
-all_coefficients_fit f rule marks coefficients count keep fit room full some e =
-    let ms = take count marks in
-    let one : min 1 f.clen ≡ 1 = omega arith in
-    let l : length (take count marks) ≡ count = length-take-le count marks room in
-    let same : take count marks ≡ replicate count 1 = full_marks f ms fit full ∙ rw (l, one) in
-    e ∙ ap (λ (xs : List ℕ). sent_fit rule xs coefficients) (sym same)
+  pub words_some : (fit : Bool) → (bytes ≡ 0 → ⊥) → fit ≡ sent_fit rule (replicate (length words) 1) words → fit ≡ sent_fit rule (replicate (length words) (min 1 bytes)) words
+  words_some fit h e = let m : min 1 bytes ≡ 1 = omega arith in e ∙ rw m
 
--- deviations without bytes all fit
-pub no_deviations_fit : (f : Fields) (rule : Rule) (deviations : List ℕ) → f.slen ≡ 0 → true ≡ sent_fit rule (deviation_marks f) deviations
-no_deviations_fit f rule deviations e = rw e (sym (none_fit rule f.n deviations))
+-- the coefficients of a full matrix
+pub full_coefficients : (f : Fields) (rule : Rule) (marks coefficients : List ℕ) (fit : Bool) → marks_fit f marks ≡ true → length coefficients ≡ length marks → f.cs ≡ false
+    → fit ≡ sent_fit rule (replicate (length coefficients) (min 1 f.clen)) coefficients → fit ≡ sent_fit rule marks coefficients
+full_coefficients f rule marks coefficients fit fits l full e =
+    e ∙ ap (λ (n : ℕ). sent_fit rule (replicate n (min 1 f.clen)) coefficients) l ∙ ap (λ (ms : List ℕ). sent_fit rule ms coefficients) (sym (full_marks f marks fits full))
 
--- deviations with bytes are all sent
-pub all_deviations_fit : (f : Fields) (rule : Rule) (deviations : List ℕ) (fit : Bool) → (f.slen ≡ 0 → ⊥) → fit ≡ sent_fit rule (replicate f.n 1) deviations → fit ≡ sent_fit rule (deviation_marks f) deviations
-all_deviations_fit f rule deviations fit h e = let m : min 1 f.slen ≡ 1 = omega arith in e ∙ rw m
+-- as many deviations as there are variables are tested
+pub deviations_front : (f : Fields) (rule : Rule) (deviations : List ℕ) → f.n ≤ length deviations
+    → sent_fit rule (replicate (length (take f.n deviations)) (min 1 f.slen)) (take f.n deviations) ≡ sent_fit rule (deviation_marks f) deviations
+deviations_front f rule deviations enough = rw (length-take-le f.n deviations enough) (sent_front rule (deviation_marks f) deviations f.n (omega (arith, length-replicate f.n (min 1 f.slen))))
+
+-- and as many coefficients as there are marks
+pub coefficients_front : (rule : Rule) (marks coefficients : List ℕ) (count : ℕ) → sent_fit rule (take count marks) (take count coefficients) ≡ sent_fit rule (take count marks) coefficients
+coefficients_front rule marks coefficients count = sent_front rule (take count marks) coefficients count (omega (arith, length-take count marks))

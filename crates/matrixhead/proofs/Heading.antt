@@ -14,7 +14,7 @@ use Rattle.verdict.specs.Machine.{on}
 use Rattle.verdict.proofs.Reaching.{reach_start, reach_step}
 use Rattle.matrix.specs.declared.Fields.{Fields}
 use Rattle.matrix.specs.declared.Told.{Told}
-use Rattle.verdict.specs.declared.Judged.TheVariants.{Kept as JudgedKept, Broken}
+use Rattle.std.specs.Prelude.{Ok, Err}
 use Rattle.matrix.specs.Meaning.{LawfulFirst}
 use Rattle.matrix.specs.Header.{header_bytes, vector_bytes, first, second, single, in_mode1, fields_in}
 use Rattle.matrix.specs.Table.{size_rows, single_rows, control1_rows, control2_rows}
@@ -33,10 +33,10 @@ module _ (told : Told) (bytes : List ℕ) (n : ℕ) (here : 0 < length bytes) (r
   size_step : verdict_of told bytes ≡ verdict_behind (judged (size_rows n) (on (control1 told n))) bytes 1
   size_step = rw read (sym (reach_start step least bytes (size told)) ∙ reach_step step least bytes (size told) 0 here)
 
-  pub size_broken : (reason : Reason) → judgement (size_rows n) ≡ Broken reason → verdict_of told bytes ≡ Refused (record { reason = reason; place = 0 })
+  pub size_broken : (reason : Reason) → judgement (size_rows n) ≡ Err reason → verdict_of told bytes ≡ Refused (record { reason = reason; place = 0 })
   size_broken reason e = size_step ∙ behind_broken (size_rows n) (on (control1 told n)) bytes 1 reason e
 
-  pub size_next : judgement (size_rows n) ≡ JudgedKept → verdict_of told bytes ≡ verdict_at (control1 told n) bytes 1
+  pub size_next : judgement (size_rows n) ≡ Ok tt → verdict_of told bytes ≡ verdict_at (control1 told n) bytes 1
   size_next e = size_step ∙ behind_kept (size_rows n) (on (control1 told n)) bytes 1 e ∙ behind_on (control1 told n) bytes 1
 
 -- the byte behind the size is of either mode
@@ -61,10 +61,10 @@ module _ (told : Told) (bytes : List ℕ) (n c : ℕ) (here : 1 < length bytes) 
 
 -- Mode 1's control byte
 module _ (bytes : List ℕ) (f : Fields) (here : 2 ≤ length bytes) (one : f.mode1 ≡ true) where
-  pub single_broken : (reason : Reason) → judgement (single_rows f) ≡ Broken reason → verdict_behind (in_single f) bytes 2 ≡ Refused (record { reason = reason; place = 1 })
+  pub single_broken : (reason : Reason) → judgement (single_rows f) ≡ Err reason → verdict_behind (in_single f) bytes 2 ≡ Refused (record { reason = reason; place = 1 })
   single_broken reason e = behind_broken (single_rows f) (enter_values f (vector_bytes f)) bytes 2 reason e
 
-  pub single_headed : 1 ≤ f.n → f.n ≤ 64 → judgement (single_rows f) ≡ JudgedKept → Headed (verdict_behind (in_single f) bytes 2) f bytes f
+  pub single_headed : 1 ≤ f.n → f.n ≤ 64 → judgement (single_rows f) ≡ Ok tt → Headed (verdict_behind (in_single f) bytes 2) f bytes f
   single_headed h l e =
       record {
         same = refl;
@@ -75,13 +75,13 @@ module _ (bytes : List ℕ) (f : Fields) (here : 2 ≤ length bytes) (one : f.mo
 
 -- Mode 2's control byte 1
 module _ (bytes : List ℕ) (f : Fields) (c : ℕ) where
-  pub control1_broken : (reason : Reason) → judgement (control1_rows f c) ≡ Broken reason → verdict_behind (in_first f c) bytes 2 ≡ Refused (record { reason = reason; place = 1 })
+  pub control1_broken : (reason : Reason) → judgement (control1_rows f c) ≡ Err reason → verdict_behind (in_first f c) bytes 2 ≡ Refused (record { reason = reason; place = 1 })
   control1_broken reason e = behind_broken (control1_rows f c) (on (control2 f)) bytes 2 reason e
 
-  pub control1_next : judgement (control1_rows f c) ≡ JudgedKept → verdict_behind (in_first f c) bytes 2 ≡ verdict_at (control2 f) bytes 2
+  pub control1_next : judgement (control1_rows f c) ≡ Ok tt → verdict_behind (in_first f c) bytes 2 ≡ verdict_at (control2 f) bytes 2
   control1_next e = behind_kept (control1_rows f c) (on (control2 f)) bytes 2 e ∙ behind_on (control2 f) bytes 2
 
-  pub control1_lawful : 1 ≤ f.n → f.n ≤ 64 → judgement (control1_rows f c) ≡ JudgedKept → LawfulFirst f
+  pub control1_lawful : 1 ≤ f.n → f.n ≤ 64 → judgement (control1_rows f c) ≡ Ok tt → LawfulFirst f
   control1_lawful h l e = coefficients_lawful f h l (judgement_kept (control1_rows f c) e).1.1
 
 -- and its control byte 2
@@ -89,13 +89,13 @@ module _ (bytes : List ℕ) (f g : Fields) (d : ℕ) (here : 2 < length bytes) (
   control2_step : verdict_at (control2 f) bytes 2 ≡ verdict_behind (judged (control2_rows g d) (enter_values g (vector_bytes g))) bytes 3
   control2_step = rw (fields, read) (reach_step step least bytes (control2 f) 2 here)
 
-  pub control2_broken : (reason : Reason) → judgement (control2_rows g d) ≡ Broken reason → verdict_at (control2 f) bytes 2 ≡ Refused (record { reason = reason; place = 2 })
+  pub control2_broken : (reason : Reason) → judgement (control2_rows g d) ≡ Err reason → verdict_at (control2 f) bytes 2 ≡ Refused (record { reason = reason; place = 2 })
   control2_broken reason e = control2_step ∙ behind_broken (control2_rows g d) (enter_values g (vector_bytes g)) bytes 3 reason e
 
   headed : header_bytes g ≡ 3
   headed = header_two g (ap (λ (h : Fields). h.mode1) fields ∙ two)
 
-  pub control2_headed : LawfulFirst f → judgement (control2_rows g d) ≡ JudgedKept → Headed (verdict_at (control2 f) bytes 2) (second f (get_or bytes 2 0)) bytes g
+  pub control2_headed : LawfulFirst f → judgement (control2_rows g d) ≡ Ok tt → Headed (verdict_at (control2 f) bytes 2) (second f (get_or bytes 2 0)) bytes g
   control2_headed lawful e =
       record {
         same = fields ∙ ap (second f) read;

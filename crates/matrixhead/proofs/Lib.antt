@@ -1,4 +1,5 @@
 pub mod Heading
+pub mod Ones
 pub mod Sending
 pub mod Beginning
 pub mod Only

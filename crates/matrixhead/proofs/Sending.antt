@@ -14,7 +14,7 @@ use Rattle.verdict.proofs.Judging.{Kept}
 use Rattle.verdict.specs.declared.Reason.{Reason}
 use Rattle.verdict.specs.declared.Verdict.TheVariants.{Unfinished, Refused}
 use Rattle.matrix.specs.declared.Fields.{Fields}
-use Rattle.verdict.specs.declared.Judged.TheVariants.{Kept as JudgedKept, Broken}
+use Rattle.std.specs.Prelude.{Ok, Err}
 use Rattle.matrix.specs.Meaning.{pairs, sum, LawfulFields}
 use Rattle.matrix.specs.Header.{header_bytes, vector_bytes, bits, marks_of, vector_in, sent_in}
 use Rattle.matrix.specs.Table.{vector_rows}
@@ -27,6 +27,7 @@ use Rattle.matrix.proofs.Keeping.{all_most, vector_none, vector_some, vector_mos
 use Rattle.matrix.proofs.Values.{all_marked, sparse_marked}
 use Rattle.verdict.proofs.Deciding.{judgement_kept}
 use Rattle.matrix.proofs.Judgements.{behind_on, behind_kept, behind_broken}
+use Rattle.matrix.proofs.Counts.{coefficients_most, fewest_most}
 use Rattle.matrix.proofs.Ones.{ones_most}
 use Rattle.matrix.proofs.VectorRuns.{vector_through, vector_seen}
 
@@ -40,6 +41,11 @@ module _ (f : Fields) (g : LawfulFields f) (sparse : f.cs ≡ true) (count : ℕ
 
   pub count_most : count ≤ 252
   count_most = omega (arith, counted, vector_most f g)
+
+  -- the coefficients that are at least to come where so many ones were seen take few bytes
+  pub fewest_few : (n sent least : ℕ) (seen : List ℕ) → n ≤ count → sent ≡ sum (bits (take n seen)) → least ≡ fewest f sent → least * f.clen ≤ 16128
+  fewest_few n sent least seen h e l =
+      coefficients_most f least g.first (omega (arith, l, fewest_most f sent (omega (arith, e, ones_most n seen, count_most, h))))
 
   module _ (bytes : List ℕ) (start : ℕ) (starts : start ≡ header_bytes f) where
     -- the ones of the first bytes behind the header
@@ -68,7 +74,7 @@ module _ (f : Fields) (g : LawfulFields f) (sparse : f.cs ≡ true) (count : ℕ
           let e : count ≡ suc (count - 1) = omega (arith, count_some) in
           rw read (vector_enters ∙ vector_through bytes f (count - 1) (header_bytes f) 0 last sent (omega (arith, count_some, starts, ends)) here (ones ∙ rw (← e) (omega arith)))
 
-      pub vector_broken : (reason : Reason) → judgement (vector_rows f sent b) ≡ Broken reason → verdict_behind (enter_values f (vector_bytes f)) bytes (header_bytes f) ≡ Refused (record { reason = reason; place = last })
+      pub vector_broken : (reason : Reason) → judgement (vector_rows f sent b) ≡ Err reason → verdict_behind (enter_values f (vector_bytes f)) bytes (header_bytes f) ≡ Refused (record { reason = reason; place = last })
       vector_broken reason e =
           vector_whole ∙ behind_broken (vector_rows f sent b) (enter (words_of f sent)) bytes (last + 1) reason e
           ∙ ap (λ (p : ℕ). Refused (record { reason = reason; place = p })) (omega arith)
@@ -84,7 +90,7 @@ module _ (f : Fields) (g : LawfulFields f) (sparse : f.cs ≡ true) (count : ℕ
           let first = sum_first (pairs f.n) (bits v) (unused_none v (count - 1) (pairs f.n) whole (omega (arith, count_pairs)) (omega (arith, count_pairs)) zeros) in
           ones ∙ sym (ap (λ (k : ℕ). sum (marks_of f (take k (drop (header_bytes f) bytes)))) (sym counted) ∙ ap sum (sparse_marked f v sparse) ∙ first)
 
-      pub vector_sent : judgement (vector_rows f sent b) ≡ JudgedKept → SentBy bytes f sent
+      pub vector_sent : judgement (vector_rows f sent b) ≡ Ok tt → SentBy bytes f sent
       vector_sent e =
           record {
             counted = omega (arith, ones, ones_most count (drop (header_bytes f) bytes), count_most);

@@ -6,7 +6,6 @@ ghost use Rattle.matrix.specs.Machine.{least_for, shortest, least_behind, least_
 
 use counts::{pairs_of, vector_bytes};
 use matrix::{Fields, Told};
-use verdict::lesser;
 
 // The size with what control byte 1 says.
 pub(crate) fn first_of(n: usize, c: usize) -> Fields
@@ -28,13 +27,9 @@ pub(crate) fn second_of(f: Fields, d: usize) -> Fields
     ensures { result ≡ second f d }
 {
     Fields {
-        n: f.n,
-        clen: f.clen,
         slen: d % 16,
-        cs: f.cs,
-        cf: f.cf,
         sf: d / 16 % 2 == 1,
-        mode1: f.mode1,
+        ..f
     }
 }
 
@@ -62,7 +57,7 @@ fn least_for(each: usize, n: usize) -> usize
         return each;
     }
     let m = pairs_of(n);
-    lesser(n * each, lesser(m, (m + 7) / 8 + 1))
+    (n * each).min(m.min((m + 7) / 8 + 1))
 }
 
 // The fewest bytes of a deviation.
@@ -81,7 +76,7 @@ pub(crate) fn least_behind(told: Told, n: usize) -> usize
     if !told.mode1 {
         return two;
     }
-    lesser(1 + least_for(shortest_of(told.mapped), n), two)
+    (1 + least_for(shortest_of(told.mapped), n)).min(two)
 }
 
 // The fewest bytes of values behind control byte 1.
@@ -90,7 +85,7 @@ pub(crate) fn least_values(f: Fields) -> usize
     ensures { result ≡ least_values f }
 {
     if f.cs {
-        return vector_bytes(f) + lesser(f.clen, f.n);
+        return vector_bytes(f) + f.clen.min(f.n);
     }
     if f.clen == 0 {
         return f.n;

@@ -7,81 +7,61 @@ ghost use Rattle.matrix.specs.Reached.{verdict_at, verdict_behind};
 ghost use Rattle.matrixhead.specs.Parts.{HeadFrom};
 
 use crate::control::{first_of, least_behind, least_values, second_of, single_of};
-use crate::judge::{judge_control1, judge_control2, judge_single, judge_size};
+use crate::judge::{judge_control1, judge_control2, judge_single, judge_size, judged_at};
 use matrix::{Fields, Told};
-use verdict::{Judged, Reason, Refusal};
+use verdict::{Reason, Stop};
 use word::bytes::byte_at;
 
-// Lawful fields, or why there are none.
-#[derive(Drop)]
-pub(crate) enum Head {
-    Fields(Fields),
-    Unfinished(usize),
-    Refused(Refusal),
-}
-
 // From Mode 2's control byte 2 on, behind the size and control byte 1.
-fn from_control2(bytes: &[u8], f: Fields) -> Head
+fn from_control2(bytes: &[u8], f: Fields) -> Result<Fields, Stop>
     requires { (2 ≤ length bytes.now) × (f.mode1 ≡ false) × LawfulFirst f }
     ensures { HeadFrom (verdict_at (control2 f) bytes.now 2) (second f (get_or bytes.now 2 0)) bytes.now result }
 {
     if bytes.len() == 2 {
-        return Head::Unfinished(1 + least_values(f));
+        return Err(Stop::Unfinished(1 + least_values(f)));
     }
     let d = byte_at(bytes, 2);
     let fields = second_of(f, d);
-    let judged = judge_control2(fields, d);
-    match judged {
-        Judged::Kept => Head::Fields(fields),
-        Judged::Broken(reason) => Head::Refused(Refusal { reason, place: 2 }),
-    }
+    judged_at(judge_control2(fields, d), 2)?;
+    Ok(fields)
 }
 
 // Mode 2's control byte 1, which says these fields.
-fn from_first(bytes: &[u8], f: Fields, c: usize) -> Head
+fn from_first(bytes: &[u8], f: Fields, c: usize) -> Result<Fields, Stop>
     requires { (2 ≤ length bytes.now) × (f.mode1 ≡ false) × ((1 ≤ f.n) × (f.n ≤ 64)) }
     ensures { HeadFrom (verdict_behind (in_first f c) bytes.now 2) (second f (get_or bytes.now 2 0)) bytes.now result }
 {
-    let judged = judge_control1(f, c);
-    match judged {
-        Judged::Kept => from_control2(bytes, f),
-        Judged::Broken(reason) => Head::Refused(Refusal { reason, place: 1 }),
-    }
+    judged_at(judge_control1(f, c), 1)?;
+    from_control2(bytes, f)
 }
 
 // Mode 1's control byte, which says these fields.
-fn from_single(bytes: &[u8], f: Fields) -> Head
+fn from_single(bytes: &[u8], f: Fields) -> Result<Fields, Stop>
     requires { (2 ≤ length bytes.now) × (f.mode1 ≡ true) × ((1 ≤ f.n) × (f.n ≤ 64)) }
     ensures { HeadFrom (verdict_behind (in_single f) bytes.now 2) f bytes.now result }
 {
-    let judged = judge_single(f);
-    match judged {
-        Judged::Kept => Head::Fields(f),
-        Judged::Broken(reason) => Head::Refused(Refusal { reason, place: 1 }),
-    }
+    judged_at(judge_single(f), 1)?;
+    Ok(f)
 }
 
 // A byte behind the size without its top bit: Mode 1's, or refused where that mode is not let in.
-fn from_low(bytes: &[u8], told: Told, n: usize, c: usize) -> Head
+fn from_low(bytes: &[u8], told: Told, n: usize, c: usize) -> Result<Fields, Stop>
     requires { (2 ≤ length bytes.now) × (c ≡ get_or bytes.now 1 0) × (c / 128 ≡ 0) × ((1 ≤ n) × (n ≤ 64)) }
     ensures { HeadFrom (verdict_at (control1 told n) bytes.now 1) (fields_in told n (get_or bytes.now 1 0) (get_or bytes.now 2 0)) bytes.now result }
 {
     if told.mode1 {
         return from_single(bytes, single_of(told, n, c));
     }
-    Head::Refused(Refusal {
-        reason: Reason::Mode,
-        place: 1,
-    })
+    Err(Stop::Refused(Reason::Mode.at(1)))
 }
 
 // From the byte behind the size on, whose top bit tells the mode.
-fn from_control1(bytes: &[u8], told: Told, n: usize) -> Head
+fn from_control1(bytes: &[u8], told: Told, n: usize) -> Result<Fields, Stop>
     requires { (1 ≤ length bytes.now) × ((1 ≤ n) × (n ≤ 64)) }
     ensures { HeadFrom (verdict_at (control1 told n) bytes.now 1) (fields_in told n (get_or bytes.now 1 0) (get_or bytes.now 2 0)) bytes.now result }
 {
     if bytes.len() == 1 {
-        return Head::Unfinished(least_behind(told, n));
+        return Err(Stop::Unfinished(least_behind(told, n)));
     }
     let c = byte_at(bytes, 1);
     if c / 128 == 0 {
@@ -97,16 +77,14 @@ fn least_of_all(told: Told) -> usize
     if told.mode1 { 3 } else { 4 }
 }
 
-pub(crate) fn header(bytes: &[u8], told: Told) -> Head
+// Lawful fields, or why there are none.
+pub(crate) fn header(bytes: &[u8], told: Told) -> Result<Fields, Stop>
     ensures { HeadFrom (verdict_of told bytes.now) (fields_of told bytes.now) bytes.now result }
 {
-    if bytes.len() == 0 {
-        return Head::Unfinished(least_of_all(told));
+    if bytes.is_empty() {
+        return Err(Stop::Unfinished(least_of_all(told)));
     }
     let n = byte_at(bytes, 0);
-    let judged = judge_size(n);
-    match judged {
-        Judged::Kept => from_control1(bytes, told, n),
-        Judged::Broken(reason) => Head::Refused(Refusal { reason, place: 0 }),
-    }
+    judged_at(judge_size(n), 0)?;
+    from_control1(bytes, told, n)
 }

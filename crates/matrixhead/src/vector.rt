@@ -1,111 +1,96 @@
 // The bit vector of a matrix pack: how many coefficients are sent.
-ghost use Rattle.std.specs.Prelude.{◌≡◌, ◌+◌, ◌*◌, ◌≤◌, true, length, take, drop};
+ghost use Rattle.std.specs.Prelude.{◌≡◌, ◌+◌, ◌*◌, ◌≤◌, true, length};
 ghost use Rattle.matrix.specs.Meaning.{sum, LawfulFields};
 ghost use Rattle.matrix.specs.Header.{header_bytes, vector_bytes, bits};
 ghost use Rattle.matrix.specs.Machine.{fewest};
-ghost use Rattle.matrixhead.specs.Parts.{SentFrom};
+ghost use Rattle.matrixhead.specs.Parts.{SentFrom, ones_in};
 
-use crate::judge::judge_vector;
+use crate::judge::{judge_vector, judged_at};
 use counts::{header_bytes, pairs_of, vector_bytes};
 use matrix::Fields;
-use verdict::{Judged, Refusal};
-use word::bytes::{Read, byte_at, read_at};
+use verdict::Stop;
+use word::bytes::byte_at;
 
-// How many coefficients are sent, or why that is not known.
-#[derive(Drop)]
-pub(crate) enum Sent {
-    Count(usize),
-    Unfinished(usize),
-    Refused(Refusal),
+fn ones_of_word(word: &[u8; 8]) -> usize
+    ensures value { result ≡ sum (bits word.now) }
+    ensures bound { result ≤ 64 }
+{
+    u64::from_be_bytes(*word).count_ones() as usize
 }
 
-// How many bits of eight bytes at a place are 1; they are read from the part that is their own, so that no test of it is left.
-fn ones_of_eight(bytes: &[u8], place: usize) -> usize
-    requires { place + 8 ≤ length bytes.now }
-    ensures { result ≡ sum (bits (take 8 (drop place bytes.now))) }
+// How many bits of words of eight bytes are 1.
+fn ones_of_words(words: &[[u8; 8]]) -> usize
+    requires { length words.now ≤ 31 }
+    ensures { result ≡ ones_in words.now }
 {
-    let end = place + 8;
-    let read = read_at(&bytes[place..end], 0, 8);
-    match read {
-        Read::Word(word) => u64::count_ones(word) as usize,
-        Read::Unfinished(_) => 0,
-        Read::Refused(_) => 0,
+    let mut ones: usize = 0;
+    for word in words {
+        ones += ones_of_word(word);
     }
+    ones
 }
 
-// How many bits of so many bytes at a place are 1, byte by byte.
-fn ones_of_each(bytes: &[u8], place: usize, count: usize) -> usize
-    requires { (place + count ≤ length bytes.now) × (count ≤ 252) }
-    ensures { result ≡ sum (bits (take count (drop place bytes.now))) }
+// How many bits of bytes are 1, byte by byte.
+fn ones_of_bytes(bytes: &[u8]) -> usize
+    requires { length bytes.now ≤ 252 }
+    ensures { result ≡ sum (bits bytes.now) }
 {
-    let mut sum: usize = 0;
-    let mut i = 0;
-    while i < count {
-        sum += u8::count_ones(bytes[place + i]) as usize;
-        i += 1;
+    let mut ones: usize = 0;
+    for byte in bytes {
+        ones += byte.count_ones() as usize;
     }
-    sum
+    ones
 }
 
-// How many bits of so many bytes at a place are 1.
-fn ones(bytes: &[u8], place: usize, count: usize) -> usize
-    requires { (place + count ≤ length bytes.now) × (count ≤ 252) }
-    ensures { result ≡ sum (bits (take count (drop place bytes.now))) }
+// How many bits of bytes are 1.
+fn ones(bytes: &[u8]) -> usize
+    requires { length bytes.now ≤ 252 }
+    ensures { result ≡ sum (bits bytes.now) }
 {
-    let mut sum: usize = 0;
-    let mut i = 0;
-    while i + 8 <= count {
-        sum += ones_of_eight(bytes, place + i);
-        i += 8;
-    }
-    sum + ones_of_each(bytes, place + i, count - i)
+    let (words, rest) = bytes.as_chunks::<8>();
+    ones_of_words(words) + ones_of_bytes(rest)
 }
 
 // How many coefficients there are at least where so many ones were seen.
 fn fewest_of(f: Fields, sent: usize) -> usize
     ensures { result ≡ fewest f sent }
 {
-    if f.slen == 0 {
-        if sent == 0 {
-            return 1;
-        }
+    if f.slen == 0 && sent == 0 {
+        return 1;
     }
     sent
 }
 
-// The vector of so many bytes behind the header.
-fn from_vector(bytes: &[u8], f: Fields, start: usize, count: usize) -> Sent
-    requires { LawfulFields f × (start ≤ length bytes.now) × (f.cs ≡ true) × (count ≡ vector_bytes f) × (start ≡ header_bytes f) }
+// The vector behind the header of sparse coefficients.
+fn from_vector(bytes: &[u8], f: Fields) -> Result<usize, Stop>
+    requires { LawfulFields f × (header_bytes f ≤ length bytes.now) × (f.cs ≡ true) }
     ensures { SentFrom bytes.now f result }
 {
+    let start = header_bytes(f);
+    let count = vector_bytes(f);
     let there = bytes.len() - start;
     if there < count {
-        let sent = ones(bytes, start, there);
-        return Sent::Unfinished(count - there + (f.n * f.slen + fewest_of(f, sent) * f.clen));
+        let sent = ones(&bytes[start..]);
+        return Err(Stop::Unfinished(count - there + (f.n * f.slen + fewest_of(f, sent) * f.clen)));
     }
-    let sent = ones(bytes, start, count);
-    let last = start + count - 1;
+    let end = start + count;
+    let sent = ones(&bytes[start..end]);
+    let last = end - 1;
     let unused = count * 8 - pairs_of(f.n);
-    let judged = judge_vector(f, sent, byte_at(bytes, last), unused);
-    match judged {
-        Judged::Kept => Sent::Count(sent),
-        Judged::Broken(reason) => Sent::Refused(Refusal {
-            reason,
-            place: last,
-        }),
-    }
+    judged_at(judge_vector(f, sent, byte_at(bytes, last), unused), last)?;
+    Ok(sent)
 }
 
-// From behind the control bytes to the first word.
-pub(crate) fn sent_of(bytes: &[u8], f: Fields) -> Sent
+// From behind the control bytes to the first word: how many coefficients are sent, or why that is not known.
+pub(crate) fn sent_of(bytes: &[u8], f: Fields) -> Result<usize, Stop>
     requires { LawfulFields f × (header_bytes f ≤ length bytes.now) }
     ensures { SentFrom bytes.now f result }
 {
     if f.cs {
-        return from_vector(bytes, f, header_bytes(f), vector_bytes(f));
+        return from_vector(bytes, f);
     }
     if f.clen == 0 {
-        return Sent::Count(0);
+        return Ok(0);
     }
-    Sent::Count(pairs_of(f.n))
+    Ok(pairs_of(f.n))
 }

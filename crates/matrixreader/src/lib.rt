@@ -7,43 +7,33 @@ ghost use Rattle.matrix.specs.Machine.{verdict_of};
 ghost use Rattle.matrixreader.specs.Reading.{matrix_read_of};
 
 use matrix::{Fields, Told};
-use matrixwalk::{Walked, found_in};
-use verdict::{Refusal, Verdict};
+use matrixwalk::found_in;
+use verdict::{Stop, Verdict};
 
-// What reading a matrix pack answers: its fields and its length, or the verdict where it is not complete.
+// What reading a whole matrix pack answers: its fields and its length.
 #[derive(Clone, Copy)]
-pub enum MatrixRead {
-    Matrix { fields: Fields, length: usize },
-    Unfinished(usize),
-    Refused(Refusal),
+pub struct MatrixRead {
+    pub fields: Fields,
+    pub length: usize,
 }
 
 // The verdict on a string of bytes as a matrix pack, under what is told.
 pub fn verdict(bytes: &[u8], told: Told) -> Verdict
     ensures { result ≡ verdict_of told bytes.now }
 {
-    let walked = found_in(bytes, told);
-    match walked {
-        Walked::Whole(found) => Verdict::Complete(found.length),
-        Walked::Unfinished(missing) => Verdict::Unfinished(missing),
-        Walked::Refused(refusal) => Verdict::Refused(refusal),
+    match found_in(bytes, told) {
+        Ok(found) => Verdict::Complete(found.length),
+        Err(stop) => Verdict::from(stop),
     }
 }
 
-// The size, the control fields and the mode of the matrix pack that the bytes begin with.
-pub fn read(bytes: &[u8], told: Told) -> MatrixRead
+// The size, the control fields and the mode of the matrix pack that the bytes begin with, or why there is no whole one.
+pub fn read(bytes: &[u8], told: Told) -> Result<MatrixRead, Stop>
     ensures { result ≡ matrix_read_of told bytes.now }
 {
-    let walked = found_in(bytes, told);
-    match walked {
-        Walked::Whole(found) => {
-            let fields = found.fields;
-            MatrixRead::Matrix {
-                fields,
-                length: found.length,
-            }
-        }
-        Walked::Unfinished(missing) => MatrixRead::Unfinished(missing),
-        Walked::Refused(refusal) => MatrixRead::Refused(refusal),
-    }
+    let found = found_in(bytes, told)?;
+    Ok(MatrixRead {
+        fields: found.fields,
+        length: found.length,
+    })
 }

@@ -75,31 +75,29 @@ module _ (bytes : List ℕ) (at : ℕ) (most₀ : List ℕ) where
 
 -- ---- blocks
 
--- no byte of so many blocks is above the entry for its place, and they end at `at`
-pub record Covers (bytes : List ℕ) (place size blocks at : ℕ) (most : List ℕ) : Type 0 where
-  pub same : at ≡ place + blocks * size
+-- no byte of so many blocks is above the entry for its place
+pub record Covers (bytes : List ℕ) (place size blocks : ℕ) (most : List ℕ) : Type 0 where
   pub room : size ≤ length most
   pub under : BlocksUnder bytes place blocks size most
 
 module _ (bytes : List ℕ) (place : ℕ) where
   module _ (size : ℕ) where
-    pub covers_none : (most : List ℕ) → size ≤ length most → Covers bytes place size 0 place most
-    covers_none most h = record { same = omega (arith, zero-mul size); room = h; under = λ b i l. absurd (omega arith) }
+    pub covers_none : (most : List ℕ) → size ≤ length most → Covers bytes place size 0 most
+    covers_none most h = record { room = h; under = λ b i l. absurd (omega arith) }
 
-    module _ (blocks at : ℕ) (most : List ℕ) (c : Covers bytes place size blocks at most) where
-      -- where more are to come, the next is there
-      pub covers_next : (all : ℕ) → blocks < all → place + all * size ≤ length bytes → at + size ≤ length bytes
-      covers_next all h l = omega (arith, c.same, suc-mul blocks size, mul-le-mul_right size h)
+    -- where more are to come, the next is there
+    pub covers_next : (blocks all : ℕ) → blocks < all → place + all * size ≤ length bytes → place + blocks * size + size ≤ length bytes
+    covers_next blocks all h l = omega (arith, suc-mul blocks size, mul-le-mul_right size h)
 
+    module _ (blocks : ℕ) (most : List ℕ) (c : Covers bytes place size blocks most) where
       -- and then the entries are raised by it
-      pub covers_more : (part : List ℕ) → Raised bytes at (take size most) part → Covers bytes place size (blocks + 1) (at + size) (part ++ drop size most)
+      pub covers_more : (part : List ℕ) → Raised bytes (place + blocks * size) (take size most) part → Covers bytes place size (blocks + 1) (part ++ drop size most)
       covers_more part r =
           let k : length part ≡ size = r.same_length ∙ length-take-le size most c.room in
           record {
-            same = omega (arith, c.same, suc-mul blocks size);
             room = rw length-append (omega arith);
             under = λ b i h l. rw (get_or-append part (drop size most) 0 i (omega arith))
-                (either (eqb b blocks) (λ t. rw (eqb-true b blocks t, ← c.same) (r.above i (omega (arith, r.same_length))))
+                (either (eqb b blocks) (λ t. rw (eqb-true b blocks t) (r.above i (omega (arith, r.same_length))))
                 (λ t. omega (arith, c.under b i (omega (arith, eqb-false b blocks t)) l, get_or-take size most i 0 l, r.kept i)));
           }
 

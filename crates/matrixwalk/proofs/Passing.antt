@@ -26,7 +26,8 @@ use Rattle.word.specs.Bytes.{word_at}
 use Rattle.word.proofs.Digits.{Below, bytes_bits, word_below, word_front}
 use Rattle.matrix.specs.Machine.{State, word, Run, enter, enter_word, in_word, rest_of, run_bytes, step, least}
 use Rattle.matrix.specs.Reached.{verdict_at, verdict_behind}
-use Rattle.matrixwalk.specs.declared.words.Passed.TheVariants.{Unfinished as PassedUnfinished, Refused as PassedRefused}
+use Rattle.std.specs.Prelude.{Err}
+use Rattle.verdict.specs.declared.Stop.TheVariants.{Unfinished as StopUnfinished, Refused as StopRefused}
 use Rattle.matrixwalk.specs.Parts.{mask_of, over_at, word_of, run_of, LookedAt, Judges, Checks, FirstsBelow, PassedTo, PassedFrom}
 use Rattle.matrixwalk.proofs.Blocks.{firsts_first, firsts_behind}
 use Rattle.matrix.proofs.Fronts.{cleared_none, run_empty}
@@ -229,8 +230,8 @@ module _ (bytes : List ℕ) (place until : ℕ) (rule : Rule) (fast : LookedAt b
     first_below below h = comes_free below (place + 1) (rule.length - 1) (rw (lt-ltb x (limit_first rule) h) at (first_within (omega arith))) (omega arith)
 
   -- so a whole word that keeps its rule breaks it nowhere
-  pub whole_keeps : Below 256 bytes → place + rule.length ≤ until → Keeps rule (word_at bytes place rule.length) → Judges bytes place until rule until
-  whole_keeps below there keeps =
+  pub whole_keeps : Sound rule → Below 256 bytes → place + rule.length ≤ until → Keeps rule (word_at bytes place rule.length) → Judges bytes place until rule until
+  whole_keeps sound below there keeps =
       let n = rule.length - 1 in
       let b = get_or bytes place 0 in
       let x = cleared (sign_first rule) b in
@@ -238,7 +239,7 @@ module _ (bytes : List ℕ) (place until : ℕ) (rule : Rule) (fast : LookedAt b
       let small : rest < 256 ^ n = word_below bytes (place + 1) n below in
       let e : rule.length ≡ suc n = omega (arith, fast.some) in
       let s : cleared rule.sign (word_at bytes place rule.length) ≡ x * 256 ^ n + rest =
-      ap (λ (k : ℕ). cleared rule.sign (word_at bytes place k)) e ∙ ap (cleared rule.sign) (word_front bytes place n (omega (arith, fast.within))) ∙ cleared_first rule fast.sound n b rest (omega (arith, fast.some)) small in
+      ap (λ (k : ℕ). cleared rule.sign (word_at bytes place k)) e ∙ ap (cleared rule.sign) (word_front bytes place n (omega (arith, fast.within))) ∙ cleared_first rule sound n b rest (omega (arith, fast.some)) small in
       let most : x ≤ limit_first rule = (le-div_iff_mul-le {k = 256 ^ n} {x = x} {y = rule.greatest} (one-le-pow n 256 (omega arith))).1 (omega (arith, s, keeps)) in
       comes_most below (place + 1) n (rest_of n rule.greatest x) (first_within x refl most) (omega arith) (rest_most n rule.greatest x rest small (omega (arith, s, keeps)))
 
@@ -287,11 +288,11 @@ module _ (bytes : List ℕ) (place until : ℕ) (rule : Rule) (fast : LookedAt b
     abbrev b₁ : ℕ
     b₁ = get_or bytes (place + 1) 0
 
-    pub two_below : (x : ℕ) → x ≡ bit_and (b₀ * 256 + b₁) (mask_of rule * 256 + 255) → x < rule.greatest / 256 ^ (rule.length - 2) → Judges bytes place until rule until
-    two_below x e h =
+    pub two_below : Sound rule → (x : ℕ) → x ≡ bit_and (b₀ * 256 + b₁) (mask_of rule * 256 + 255) → x < rule.greatest / 256 ^ (rule.length - 2) → Judges bytes place until rule until
+    two_below sound x e h =
         let g = rule.greatest / 256 ^ (rule.length - 2) in
         let x₀ = bit_and b₀ (mask_of rule) in
-        let counts : cleared (sign_first rule) b₀ ≡ x₀ = masked rule fast.sound fast.some b₀ b₀ (mask_of rule) refl (below place) refl in
+        let counts : cleared (sign_first rule) b₀ ≡ x₀ = masked rule sound fast.some b₀ b₀ (mask_of rule) refl (below place) refl in
         let first : limit_first rule ≡ g / 256 = let n : rule.length - 1 ≡ suc (rule.length - 2) = omega arith in rw n (next_byte rule.greatest (rule.length - 2)) in
         let both : x ≡ x₀ * 256 + b₁ = e ∙ and_two rule b₀ b₁ (below (place + 1)) in
         either (ltb x₀ (limit_first rule)) (λ t. first_below x₀ counts below (ltb-true x₀ (limit_first rule) t))
@@ -390,7 +391,7 @@ module _ (rule : Rule) (sound : Sound rule) (some : 1 ≤ rule.length) (plain : 
       (λ t. let inside = ltb-true at until t in
       let b = get_or bytes at 0 in
       let judged : Judges bytes at until rule until =
-      first_below bytes at until rule (record { sound = sound; some = some; before = inside; within = within }) b (unsigned rule sound some plain b) below (omega (arith, firsts_first bytes until rule.length limit at inside f)) in
+      first_below bytes at until rule (record { some = some; before = inside; within = within }) b (unsigned rule sound some plain b) below (omega (arith, firsts_first bytes until rule.length limit at inside f)) in
       firsts_from left (at + rule.length) (omega arith) (carries_next rule some bytes until place at c rule.length refl inside judged) (firsts_behind bytes until rule.length limit at f))
       (λ t. carries_all rule some bytes until place at c (ltb-false at until t))
 
@@ -411,10 +412,10 @@ module _ (bytes : List ℕ) (place count : ℕ) (rule : Rule) (after : ℕ) wher
       }
 
   module _ (until broken : ℕ) (is : until ≡ min (place + count * rule.length) (length bytes)) (checks : Checks bytes place until rule broken) where
-    pub pass_over : broken < until → PassedFrom bytes place count rule after (PassedRefused (record { reason = ValueRange; place = broken }))
+    pub pass_over : broken < until → PassedFrom bytes place count rule after (Err (StopRefused (record { reason = ValueRange; place = broken })))
     pass_over h runs k = checks.over h count runs (omega arith)
 
-    pub pass_cut : until ≤ broken → until < place + count * rule.length → PassedFrom bytes place count rule after (PassedUnfinished (place + count * rule.length - until + after))
+    pub pass_cut : until ≤ broken → until < place + count * rule.length → PassedFrom bytes place count rule after (Err (StopUnfinished (place + count * rule.length - until + after)))
     pass_cut h l runs k = rw (← k) (checks.cut (omega arith) count runs l (omega arith))
 
     pub pass_whole : until ≤ broken → place + count * rule.length ≤ until → PassedTo bytes place count rule after (place + count * rule.length)

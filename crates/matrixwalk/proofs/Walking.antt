@@ -3,6 +3,10 @@ use Prim.Native.Nat.{ℕ, ◌*◌}
 use mathlib.Core.Path.{◌≡◌, refl, sym, ap, ap₂, ◌∙◌}
 use mathlib.Core.List.{List, [], ◌∷◌}
 use native.Mathlib.Omega.{arith}
+use Rattle.verdict.specs.declared.Refusal.{Refusal}
+use Rattle.verdict.specs.declared.Stop.{Stop}
+use Rattle.verdict.specs.declared.Stop.TheVariants.{Unfinished as StopUnfinished, Refused as StopRefused}
+use Rattle.verdict.specs.Answers.{stopped}
 use Rattle.verdict.specs.declared.Verdict.{Verdict}
 use Rattle.verdict.specs.declared.Verdict.TheVariants.{Complete, Unfinished, Refused}
 use Rattle.verdict.specs.Reaching.{led}
@@ -11,23 +15,33 @@ use Rattle.rule.specs.Rules.{rule_of_deviations, rule_of_coefficients, ruled_by}
 use Rattle.rule.proofs.Certain.{coefficient_length}
 use Rattle.matrix.specs.declared.Fields.{Fields}
 use Rattle.matrix.specs.declared.Told.{Told}
-use Rattle.matrixwalk.specs.declared.Walked.{Walked}
-use Rattle.matrixwalk.specs.declared.Walked.TheVariants.{Whole, Unfinished as WalkedUnfinished, Refused as WalkedRefused}
+use Rattle.std.specs.Prelude.{Result, Ok, Err}
+use Rattle.matrixwalk.specs.declared.Found.{Found}
 use Rattle.matrix.specs.Meaning.{LawfulFields}
 use Rattle.matrix.specs.Header.{fields_of, sent_in, words_from}
-use Rattle.matrixhead.specs.Parts.{BegunBy}
+use Rattle.matrixhead.specs.Parts.{BegunBy, BegunFrom}
 use Rattle.matrix.specs.Machine.{Run, enter, run_bytes, verdict_of}
 use Rattle.matrix.specs.Reached.{verdict_behind}
 use Rattle.matrixwalk.specs.Walk.{walked_for, walked_of}
-use Rattle.matrixwalk.specs.Parts.{rule_in, run_of, WordsAt, verdict_from, PassedTo, PastDeviations, FoundIn, WalkFrom}
+use Rattle.matrixwalk.specs.Parts.{run_of, WordsAt, verdict_from, PassedTo, PastDeviations, FoundIn, WalkFrom}
 
 -- the rules that lawful fields choose
 module _ (f : Fields) (g : LawfulFields f) where
-  pub chosen_deviations : rule_in (ruled_by f.sf f.slen (rule_of_deviations f.sf f.slen)) ≡ rule_of_deviations f.sf f.slen
-  chosen_deviations = rw g.deviation_length
+  pub deviations_ruled : ruled_by f.sf f.slen (rule_of_deviations f.sf f.slen) ≡ Ok (rule_of_deviations f.sf f.slen)
+  deviations_ruled = rw g.deviation_length
 
-  pub chosen_coefficients : rule_in (ruled_by f.cf f.clen (rule_of_coefficients f.cf f.clen)) ≡ rule_of_coefficients f.cf f.clen
-  chosen_coefficients = rw g.first.coefficient_length
+  pub coefficients_ruled : ruled_by f.cf f.clen (rule_of_coefficients f.cf f.clen) ≡ Ok (rule_of_coefficients f.cf f.clen)
+  coefficients_ruled = rw g.first.coefficient_length
+
+  module _ (answer : Result Rule Refusal) (rule : Rule) (is : answer ≡ Ok rule) where
+    chosen : (r : Rule) → answer ≡ Ok r → rule ≡ r
+    chosen r e = cc
+
+    pub chosen_deviations : answer ≡ ruled_by f.sf f.slen (rule_of_deviations f.sf f.slen) → rule ≡ rule_of_deviations f.sf f.slen
+    chosen_deviations e = chosen _ (e ∙ deviations_ruled)
+
+    pub chosen_coefficients : answer ≡ ruled_by f.cf f.clen (rule_of_coefficients f.cf f.clen) → rule ≡ rule_of_coefficients f.cf f.clen
+    chosen_coefficients e = chosen _ (e ∙ coefficients_ruled)
 
 module _ (bytes : List ℕ) (f : Fields) (sent words : ℕ) (rule : Rule) where
   module _ (b : WordsAt bytes f words sent) (e : rule ≡ rule_of_deviations f.sf f.slen) where
@@ -68,34 +82,42 @@ module _ (told : Told) (bytes : List ℕ) where
   begun_words f words sent b = record { lawful = b.lawful; within = b.within; counted = b.counted }
 
   -- what was found of a whole pack is what its bytes have
-  found_same : (f : Fields) (words sent : ℕ) → BegunBy told bytes f words sent → (n : ℕ) → Whole (record { fields = f; words = words; sent = sent; length = n }) ≡ walked_for told bytes (Complete n)
+  found_same : (f : Fields) (words sent : ℕ) → BegunBy told bytes f words sent → (n : ℕ) → Ok (record { fields = f; words = words; sent = sent; length = n }) ≡ walked_for told bytes (Complete n)
   found_same f words sent b n =
       let e = b.same in
       let w : words ≡ words_from (fields_of told bytes) = b.start ∙ ap words_from e in
       let s : sent ≡ sent_in (fields_of told bytes) bytes = b.marked ∙ ap (λ (g : Fields). sent_in g bytes) e in
-      ap (λ (g : Fields). Whole (record { fields = g; words = words; sent = sent; length = n })) e
-      ∙ ap₂ (λ (p k : ℕ). Whole (record { fields = fields_of told bytes; words = p; sent = k; length = n })) w s
+      ap (λ (g : Fields). Ok (record { fields = g; words = words; sent = sent; length = n })) e
+      ∙ ap₂ (λ (p k : ℕ). Ok (record { fields = fields_of told bytes; words = p; sent = k; length = n })) w s
 
   -- an answer that stands for the verdict is the walk's
-  pub ended_one : (v : Verdict) (walked : Walked) → walked ≡ walked_for told bytes v → verdict_of told bytes ≡ v → walked ≡ walked_of told bytes
+  pub ended_one : (v : Verdict) (walked : Result Found Stop) → walked ≡ walked_for told bytes v → verdict_of told bytes ≡ v → walked ≡ walked_of told bytes
   ended_one v walked e x = e ∙ sym (ap (walked_for told bytes) x)
 
+  -- and so where there is no whole pack
+  pub stopped_one : (stop : Stop) → verdict_of told bytes ≡ stopped stop → Err stop ≡ walked_of told bytes
+  stopped_one (StopUnfinished missing) = ended_one (Unfinished missing) (Err (StopUnfinished missing)) refl
+  stopped_one (StopRefused refusal) = ended_one (Refused refusal) (Err (StopRefused refusal)) refl
+
+  -- what begins no pack
+  pub begun_stopped : (stop : Stop) → BegunFrom told bytes (Err stop) → verdict_of told bytes ≡ stopped stop
+  begun_stopped (StopUnfinished missing) x = x.0
+  begun_stopped (StopRefused refusal) x = x.0
+
   -- the walk's contract admits one answer
-  pub walked_one : (f : Fields) (words sent : ℕ) → BegunBy told bytes f words sent → (walked : Walked) → WalkFrom bytes f words sent walked → walked ≡ walked_of told bytes
-  walked_one f words sent b (Whole found) x = ended_one (Complete found.length) (Whole found) (ap Whole x.same ∙ found_same f words sent b found.length) (b.leads ∙ x.said)
-  walked_one f words sent b (WalkedUnfinished missing) x = ended_one (Unfinished missing) (WalkedUnfinished missing) refl (b.leads ∙ x)
-  walked_one f words sent b (WalkedRefused refusal) x = ended_one (Refused refusal) (WalkedRefused refusal) refl (b.leads ∙ x)
+  pub walked_one : (f : Fields) (words sent : ℕ) → BegunBy told bytes f words sent → (walked : Result Found Stop) → WalkFrom bytes f words sent walked → walked ≡ walked_of told bytes
+  walked_one f words sent b (Ok found) x = ended_one (Complete found.length) (Ok found) (ap Ok x.same ∙ found_same f words sent b found.length) (b.leads ∙ x.said)
+  walked_one f words sent b (Err stop) x = stopped_one stop (b.leads ∙ x)
 
 -- the verdict that a walk's answer stands for
-abbrev pub verdict_in : Walked → Verdict
-verdict_in (Whole found) = Complete found.length
-verdict_in (WalkedUnfinished missing) = Unfinished missing
-verdict_in (WalkedRefused refusal) = Refused refusal
+abbrev pub verdict_in : Result Found Stop → Verdict
+verdict_in (Ok found) = Complete found.length
+verdict_in (Err stop) = stopped stop
 
 verdict_back : (told : Told) (bytes : List ℕ) (v : Verdict) → verdict_in (walked_for told bytes v) ≡ v
 verdict_back told bytes (Complete n) = refl
 verdict_back told bytes (Unfinished missing) = refl
 verdict_back told bytes (Refused refusal) = refl
 
-pub walk_said : (told : Told) (bytes : List ℕ) (walked : Walked) → walked ≡ walked_of told bytes → verdict_of told bytes ≡ verdict_in walked
+pub walk_said : (told : Told) (bytes : List ℕ) (walked : Result Found Stop) → walked ≡ walked_of told bytes → verdict_of told bytes ≡ verdict_in walked
 walk_said told bytes walked e = sym (ap verdict_in e ∙ verdict_back told bytes (verdict_of told bytes))

@@ -1,20 +1,15 @@
 -- For private functions alone: what each part of the walk promises, that its answer is the run's from where it stands.
-use Rattle.std.specs.Prelude.{ℕ, ◌+◌, ◌-◌, ◌*◌, ◌/◌, ◌^◌, ◌≤◌, ◌<◌, ◌≡◌, cond, List, [], ◌∷◌, length, get_or, eqb}
+use Rattle.std.specs.Prelude.{ℕ, ◌+◌, ◌-◌, ◌*◌, ◌/◌, ◌^◌, ◌≤◌, ◌<◌, ◌≡◌, cond, List, [], ◌∷◌, length, get_or, eqb, Result, Ok, Err}
+use Rattle.verdict.specs.declared.Stop.{Stop}
+use Rattle.verdict.specs.Answers.{stopped}
 use Rattle.verdict.specs.declared.Reason.TheVariants.{ValueRange}
 use Rattle.verdict.specs.declared.Verdict.{Verdict}
 use Rattle.verdict.specs.declared.Verdict.TheVariants.{Complete, Unfinished, Refused}
 use Rattle.rule.specs.declared.rules.Rule.{Rule}
-use Rattle.rule.specs.declared.rules.Ruled.{Ruled}
-use Rattle.rule.specs.declared.rules.Ruled.TheVariants.{By, Refused as RuledRefused}
-use Rattle.rule.specs.declared.rules.Form.{Form}
-use Rattle.rule.specs.Rules.{rule_of_coefficients, rule_of}
+use Rattle.rule.specs.Rules.{rule_of_coefficients}
 use Rattle.rule.specs.Sound.{Sound}
 use Rattle.matrix.specs.declared.Fields.{Fields}
-use Rattle.matrixwalk.specs.declared.words.Passed.{Passed}
-use Rattle.matrixwalk.specs.declared.words.Passed.TheVariants.{To, Unfinished as PassedUnfinished, Refused as PassedRefused}
 use Rattle.matrixwalk.specs.declared.Found.{Found}
-use Rattle.matrixwalk.specs.declared.Walked.{Walked}
-use Rattle.matrixwalk.specs.declared.Walked.TheVariants.{Whole, Unfinished as WalkedUnfinished, Refused as WalkedRefused}
 use Rattle.matrix.specs.Meaning.{LawfulFields}
 use Rattle.matrix.specs.Machine.{State, word, Run, enter, words_of, run_bytes}
 use Rattle.matrix.specs.Reached.{verdict_at, verdict_behind}
@@ -32,9 +27,8 @@ over_at place = Refused (record { reason = ValueRange; place = place })
 abbrev pub word_of : Rule → Run → List Run → State
 word_of rule run runs = word (rule.length - 1) (rule.sign / 256 ^ (rule.length - 1)) rule.greatest run runs
 
--- a word of a sound rule begins at a place, and is looked at up to another
+-- a word of a rule begins at a place, and is looked at up to another
 pub record LookedAt (bytes : List ℕ) (place until : ℕ) (rule : Rule) : Type 0 where
-  pub sound : Sound rule
   pub some : 1 ≤ rule.length
   pub before : place < until
   pub within : until ≤ length bytes
@@ -50,14 +44,11 @@ pub record Judges (bytes : List ℕ) (place until : ℕ) (rule : Rule) (broken :
 abbrev pub run_of : Rule → ℕ → Run
 run_of rule count = record { rule = rule; count = count }
 
--- words of a form and its rule begin at a place, and are looked at up to another
-pub record Checkable (bytes : List ℕ) (place until : ℕ) (rule : Rule) (form : Form) : Type 0 where
-  pub sound : Sound rule
+-- words of a rule begin at a place, and are looked at up to another
+pub record Checkable (bytes : List ℕ) (place until : ℕ) (rule : Rule) : Type 0 where
   pub some : 1 ≤ rule.length
   pub forward : place ≤ until
   pub within : until ≤ length bytes
-  pub formed : rule ≡ rule_of form
-  pub as_long : rule.length ≡ form.length
 
 -- up to `until` some words of a rule break it at a byte, or nowhere
 pub record Checks (bytes : List ℕ) (place until : ℕ) (rule : Rule) (broken : ℕ) : Type 0 where
@@ -92,17 +83,11 @@ pub record PassedTo (bytes : List ℕ) (place count : ℕ) (rule : Rule) (after 
   pub within : next ≤ length bytes
   pub leads : (runs : List Run) → run_bytes runs ≡ after → verdict_behind (enter (run_of rule count ∷ runs)) bytes place ≡ verdict_behind (enter runs) bytes next
 
-abbrev pub PassedFrom : List ℕ → ℕ → ℕ → Rule → ℕ → Passed → Type 0
-PassedFrom bytes place count rule after (To next) = PassedTo bytes place count rule after next
-PassedFrom bytes place count rule after (PassedUnfinished missing) = (runs : List Run) → run_bytes runs ≡ after → verdict_behind (enter (run_of rule count ∷ runs)) bytes place ≡ Unfinished missing
-PassedFrom bytes place count rule after (PassedRefused refusal) = (runs : List Run) → run_bytes runs ≡ after → verdict_behind (enter (run_of rule count ∷ runs)) bytes place ≡ Refused refusal
+abbrev pub PassedFrom : List ℕ → ℕ → ℕ → Rule → ℕ → Result ℕ Stop → Type 0
+PassedFrom bytes place count rule after (Ok next) = PassedTo bytes place count rule after next
+PassedFrom bytes place count rule after (Err stop) = (runs : List Run) → run_bytes runs ≡ after → verdict_behind (enter (run_of rule count ∷ runs)) bytes place ≡ stopped stop
 
 -- ---- the whole pack
-
--- the rule that was chosen; the one of no bytes where none was
-abbrev pub rule_in : Ruled → Rule
-rule_in (By rule) = rule
-rule_in (RuledRefused refusal) = record { length = 0; sign = 0; greatest = 0 }
 
 -- the words of lawful fields begin at a place, and so many coefficients are sent
 pub record WordsAt (bytes : List ℕ) (f : Fields) (words sent : ℕ) : Type 0 where
@@ -125,7 +110,6 @@ pub record FoundIn (bytes : List ℕ) (f : Fields) (words sent : ℕ) (found : F
   pub same : found ≡ record { fields = f; words = words; sent = sent; length = found.length }
   pub said : verdict_from bytes f words sent ≡ Complete found.length
 
-abbrev pub WalkFrom : List ℕ → Fields → ℕ → ℕ → Walked → Type 0
-WalkFrom bytes f words sent (Whole found) = FoundIn bytes f words sent found
-WalkFrom bytes f words sent (WalkedUnfinished missing) = verdict_from bytes f words sent ≡ Unfinished missing
-WalkFrom bytes f words sent (WalkedRefused refusal) = verdict_from bytes f words sent ≡ Refused refusal
+abbrev pub WalkFrom : List ℕ → Fields → ℕ → ℕ → Result Found Stop → Type 0
+WalkFrom bytes f words sent (Ok found) = FoundIn bytes f words sent found
+WalkFrom bytes f words sent (Err stop) = verdict_from bytes f words sent ≡ stopped stop

@@ -4,14 +4,16 @@
 
 ghost use Rattle.std.specs.Prelude.{◌≡◌};
 ghost use Rattle.matrixwalk.specs.Walk.{walked_of};
-ghost use Rattle.matrixwalk.specs.Parts.{rule_in, WordsAt, PastDeviations, WalkFrom};
+ghost use Rattle.matrixwalk.specs.Parts.{WordsAt, PastDeviations, WalkFrom};
 
-use crate::words::{Passed, pass};
+use crate::ruled::Ruled;
+use crate::words::pass;
 use matrix::{Fields, Told};
 use matrixhead::{Begun, begin};
-use rule::rules::{Form, Rule, Ruled, coefficient_rule, deviation_rule};
-use verdict::Refusal;
+use rule::rules::{Form, coefficient_rule, deviation_rule};
+use verdict::Stop;
 
+mod ruled;
 mod words;
 
 // A whole pack: its fields, the place of its first word, how many coefficients are sent, its length.
@@ -23,82 +25,51 @@ pub struct Found {
     pub length: usize,
 }
 
-#[derive(Drop)]
-pub enum Walked {
-    Whole(Found),
-    Unfinished(usize),
-    Refused(Refusal),
-}
-
-// The rule that was chosen; the one of no bytes where none was.
-fn chosen(ruled: Ruled) -> Rule
-    ensures { result ≡ rule_in ruled }
-{
-    match ruled {
-        Ruled::By(rule) => rule,
-        Ruled::Refused(_) => Rule {
-            length: 0,
-            sign: 0,
-            greatest: 0,
-        },
-    }
-}
-
 // Behind the deviations, which end at `place`.
-fn from_coefficients(bytes: &[u8], f: Fields, words: usize, sent: usize, place: usize) -> Walked
-    requires { PastDeviations bytes.now f words sent place }
-    ensures { WalkFrom bytes.now f words sent result }
+fn from_coefficients(bytes: &[u8], begun: Begun, place: usize) -> Result<Found, Stop>
+    requires { PastDeviations bytes.now begun.fields begun.words begun.sent place }
+    ensures { WalkFrom bytes.now begun.fields begun.words begun.sent result }
 {
-    let rule = chosen(coefficient_rule(f.cf, f.clen));
-    let form = Form {
-        coefficients: true,
-        mapped: f.cf,
-        length: f.clen,
+    let f = begun.fields;
+    let ruled = Ruled {
+        form: Form {
+            coefficients: true,
+            mapped: f.cf,
+            length: f.clen,
+        },
+        rule: coefficient_rule(f.cf, f.clen).unwrap(),
     };
-    let passed = pass(bytes, place, sent, rule, form, 0);
-    match passed {
-        Passed::To(length) => Walked::Whole(Found {
-            fields: f,
-            words,
-            sent,
-            length,
-        }),
-        Passed::Unfinished(missing) => Walked::Unfinished(missing),
-        Passed::Refused(refusal) => Walked::Refused(refusal),
-    }
+    let length = pass(bytes, place, begun.sent, ruled, 0)?;
+    Ok(Found {
+        fields: f,
+        words: begun.words,
+        sent: begun.sent,
+        length,
+    })
 }
 
-// From the first word on, which stands at `words`.
-fn from_deviations(bytes: &[u8], f: Fields, words: usize, sent: usize) -> Walked
-    requires { WordsAt bytes.now f words sent }
-    ensures { WalkFrom bytes.now f words sent result }
+// From the first word on.
+fn from_deviations(bytes: &[u8], begun: Begun) -> Result<Found, Stop>
+    requires { WordsAt bytes.now begun.fields begun.words begun.sent }
+    ensures { WalkFrom bytes.now begun.fields begun.words begun.sent result }
 {
-    let rule = chosen(deviation_rule(f.sf, f.slen));
-    let form = Form {
-        coefficients: false,
-        mapped: f.sf,
-        length: f.slen,
+    let f = begun.fields;
+    let ruled = Ruled {
+        form: Form {
+            coefficients: false,
+            mapped: f.sf,
+            length: f.slen,
+        },
+        rule: deviation_rule(f.sf, f.slen).unwrap(),
     };
-    let passed = pass(bytes, words, f.n, rule, form, sent * f.clen);
-    match passed {
-        Passed::To(place) => from_coefficients(bytes, f, words, sent, place),
-        Passed::Unfinished(missing) => Walked::Unfinished(missing),
-        Passed::Refused(refusal) => Walked::Refused(refusal),
-    }
+    let place = pass(bytes, begun.words, f.n, ruled, begun.sent * f.clen)?;
+    from_coefficients(bytes, begun, place)
 }
 
 // What a walk over the bytes finds under what is told, for callers that read the words themselves.
-pub fn found_in(bytes: &[u8], told: Told) -> Walked
+pub fn found_in(bytes: &[u8], told: Told) -> Result<Found, Stop>
     ensures { result ≡ walked_of told bytes.now }
 {
-    let begun = begin(bytes, told);
-    match begun {
-        Begun::Values {
-            fields,
-            words,
-            sent,
-        } => from_deviations(bytes, fields, words, sent),
-        Begun::Unfinished(missing) => Walked::Unfinished(missing),
-        Begun::Refused(refusal) => Walked::Refused(refusal),
-    }
+    let begun = begin(bytes, told)?;
+    from_deviations(bytes, begun)
 }

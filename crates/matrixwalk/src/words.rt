@@ -1,22 +1,13 @@
 // The words of a matrix pack against their rule: their first bytes mostly settle them, many at a time, and only words that these leave open are looked at one by one.
 ghost use Rattle.std.specs.Prelude.{◌≡◌, true, ◌+◌, ◌-◌, ◌*◌, ◌/◌, ◌%◌, ◌^◌, ◌≤◌, ◌<◌, length as count, get_or};
 ghost use Rattle.std.specs.Int.Bits.{bit_and};
-ghost use Rattle.rule.specs.Rules.{cleared, rule_of};
-ghost use Rattle.rule.specs.Sound.{Sound};
-ghost use Rattle.word.specs.Bytes.{word_at};
+ghost use Rattle.rule.specs.Rules.{cleared};
 ghost use Rattle.matrixwalk.specs.Parts.{mask_of, LookedAt, Judges, Checkable, Checks, FirstsBelow, Raised, BlocksUnder, SettledByTwo, PassedFrom};
 
-use rule::rules::{Form, Rule};
-use verdict::{Reason, Refusal, lesser};
-use word::bytes::{Read, byte_at, read_at};
-
-// The place behind some words that keep their rule, or why there is none.
-#[derive(Drop)]
-pub(crate) enum Passed {
-    To(usize),
-    Unfinished(usize),
-    Refused(Refusal),
-}
+use crate::ruled::Ruled;
+use rule::rules::Rule;
+use verdict::{Reason, Stop, lesser};
+use word::bytes::{any_word_of, byte_at};
 
 // Below so many bytes a loop over words is not worth making wide.
 const FEW: usize = 64;
@@ -37,15 +28,14 @@ fn limit_at(greatest: u64, more: usize) -> usize
 }
 
 // Behind a first byte that is its limit's: the byte that breaks the rule, or `until`.
-fn tight_word(bytes: &[u8], at: usize, until: usize, rule: Rule) -> usize
-    requires { LookedAt bytes.now at until rule × (cleared (rule.sign / 256 ^ (rule.length - 1)) (get_or bytes.now at 0) ≡ rule.greatest / 256 ^ (rule.length - 1)) }
-    ensures { Judges bytes.now at until rule result }
+fn tight_word(bytes: &[u8], at: usize, until: usize, ruled: Ruled) -> usize
+    requires { LookedAt bytes.now at until ruled.rule × (cleared (ruled.rule.sign / 256 ^ (ruled.rule.length - 1)) (get_or bytes.now at 0) ≡ ruled.rule.greatest / 256 ^ (ruled.rule.length - 1)) }
+    ensures { Judges bytes.now at until ruled.rule result }
 {
-    let end = at + rule.length;
+    let end = at + ruled.rule.length;
     let stop = lesser(end, until);
-    let mut i = at + 1;
-    while i < stop {
-        let limit = limit_at(rule.greatest, end - 1 - i);
+    for i in at + 1..stop {
+        let limit = limit_at(ruled.rule.greatest, end - 1 - i);
         let b = byte_at(bytes, i);
         if limit < b {
             return i;
@@ -53,53 +43,22 @@ fn tight_word(bytes: &[u8], at: usize, until: usize, rule: Rule) -> usize
         if b < limit {
             return until;
         }
-        i += 1;
     }
     until
 }
 
-// The word of `length` bytes at a place where they are.
-fn word_at(bytes: &[u8], at: usize, length: usize) -> u64
-    requires { (length ≤ 8) × (at + length ≤ count bytes.now) }
-    ensures { result ≡ word_at bytes.now at length }
-{
-    let read = read_at(bytes, at, length);
-    match read {
-        Read::Word(word) => word,
-        Read::Unfinished(_) => 0,
-        Read::Refused(_) => 0,
-    }
-}
-
-// Each length is loads of its own to the compiler.
-fn word_by_length(bytes: &[u8], at: usize, length: usize) -> u64
-    requires { (length ≤ 8) × (at + length ≤ count bytes.now) }
-    ensures { result ≡ word_at bytes.now at length }
-{
-    match length {
-        1 => word_at(bytes, at, 1),
-        2 => word_at(bytes, at, 2),
-        3 => word_at(bytes, at, 3),
-        4 => word_at(bytes, at, 4),
-        5 => word_at(bytes, at, 5),
-        6 => word_at(bytes, at, 6),
-        7 => word_at(bytes, at, 7),
-        8 => word_at(bytes, at, 8),
-        _ => word_at(bytes, at, length),
-    }
-}
-
 // A word whose first byte is its limit's: where it is whole, its form's check tells whether it keeps the rule, and its bytes the place of a refusal, or what is cut.
-fn judge_tight(bytes: &[u8], at: usize, until: usize, rule: Rule, form: Form) -> usize
-    requires { LookedAt bytes.now at until rule × (cleared (rule.sign / 256 ^ (rule.length - 1)) (get_or bytes.now at 0) ≡ rule.greatest / 256 ^ (rule.length - 1)) × (rule ≡ rule_of form) × (rule.length ≡ form.length) }
-    ensures { Judges bytes.now at until rule result }
+fn judge_tight(bytes: &[u8], at: usize, until: usize, ruled: Ruled) -> usize
+    requires { LookedAt bytes.now at until ruled.rule × (cleared (ruled.rule.sign / 256 ^ (ruled.rule.length - 1)) (get_or bytes.now at 0) ≡ ruled.rule.greatest / 256 ^ (ruled.rule.length - 1)) }
+    ensures { Judges bytes.now at until ruled.rule result }
 {
-    if form.length <= until - at {
-        if form.admits(word_by_length(bytes, at, form.length)) {
+    if ruled.form.length <= until - at {
+        let end = at + ruled.form.length;
+        if ruled.form.admits(any_word_of(&bytes[at..end])) {
             return until;
         }
     }
-    tight_word(bytes, at, until, rule)
+    tight_word(bytes, at, until, ruled)
 }
 
 // The byte of the word at a place that breaks its rule, or `until` where none before that does.
@@ -107,13 +66,12 @@ fn judge_word(
     bytes: &[u8],
     at: usize,
     until: usize,
-    rule: Rule,
-    form: Form,
+    ruled: Ruled,
     mask: usize,
     first: usize,
 ) -> usize
-    requires { LookedAt bytes.now at until rule × (rule ≡ rule_of form) × (rule.length ≡ form.length) × (mask ≡ mask_of rule) × (first ≡ rule.greatest / 256 ^ (rule.length - 1)) }
-    ensures { Judges bytes.now at until rule result }
+    requires { LookedAt bytes.now at until ruled.rule × (mask ≡ mask_of ruled.rule) × (first ≡ ruled.rule.greatest / 256 ^ (ruled.rule.length - 1)) }
+    ensures { Judges bytes.now at until ruled.rule result }
 {
     let b = byte_at(bytes, at) & mask;
     if first < b {
@@ -122,23 +80,23 @@ fn judge_word(
     if b < first {
         return until;
     }
-    judge_tight(bytes, at, until, rule, form)
+    judge_tight(bytes, at, until, ruled)
 }
 
 // The byte of the words from a place on that breaks their rule, or `until` where none before that does, word by word.
-fn check_each(bytes: &[u8], place: usize, until: usize, rule: Rule, form: Form) -> usize
-    requires { Checkable bytes.now place until rule form }
-    ensures { Checks bytes.now place until rule result }
+fn check_each(bytes: &[u8], place: usize, until: usize, ruled: Ruled) -> usize
+    requires { Checkable bytes.now place until ruled.rule }
+    ensures { Checks bytes.now place until ruled.rule result }
 {
-    let mask = mask_of(rule);
-    let first = limit_at(rule.greatest, rule.length - 1);
+    let mask = mask_of(ruled.rule);
+    let first = limit_at(ruled.rule.greatest, ruled.rule.length - 1);
     let mut at = place;
     while at < until {
-        let broken = judge_word(bytes, at, until, rule, form, mask, first);
+        let broken = judge_word(bytes, at, until, ruled, mask, first);
         if broken < until {
             return broken;
         }
-        at += rule.length;
+        at += ruled.rule.length;
     }
     until
 }
@@ -158,21 +116,13 @@ fn all_below(bytes: &[u8], place: usize, until: usize, length: usize, limit: u8)
     true
 }
 
-fn greater(a: u8, b: u8) -> u8
-    ensures { (a ≤ result) × (b ≤ result) }
-{
-    if a < b { b } else { a }
-}
-
 // Raises each entry to the byte that stands as far behind a place.
 fn raise(bytes: &[u8], at: usize, most: &mut [u8])
     requires { at + count most.old ≤ count bytes.now }
     ensures { Raised bytes.now at most.old most.new }
 {
-    let mut i = 0;
-    while i < most.len() {
-        most[i] = greater(most[i], bytes[at + i]);
-        i += 1;
+    for (i, entry) in most.iter_mut().enumerate() {
+        *entry = (*entry).max(bytes[at + i]);
     }
 }
 
@@ -182,12 +132,9 @@ fn greatest_of(bytes: &[u8], place: usize, blocks: usize, size: usize) -> [u8; 1
     ensures { BlocksUnder bytes.now place blocks size result }
 {
     let mut most = [0u8; 128];
-    let mut at = place;
-    let mut i = 0;
-    while i < blocks {
+    for i in 0..blocks {
+        let at = place + i * size;
         raise(bytes, at, &mut most[..size]);
-        at += size;
-        i += 1;
     }
     most
 }
@@ -233,12 +180,6 @@ fn many_below(bytes: &[u8], place: usize, until: usize, length: usize, limit: u8
     all_below(bytes, place + blocks * size, until, length, limit)
 }
 
-fn greater_two(a: u16, b: u16) -> u16
-    ensures { (a ≤ result) × (b ≤ result) }
-{
-    if a < b { b } else { a }
-}
-
 // The first two bytes of a word, the second the higher: so the compiler makes one load of them.
 fn swapped_at(bytes: &[u8], at: usize) -> u16
     requires { at + 1 < count bytes.now }
@@ -264,7 +205,7 @@ fn greatest_two(bytes: &[u8], place: usize, until: usize, length: usize, mask: u
     let mut most: u16 = 0;
     let mut at = place;
     while at + 1 < until {
-        most = greater_two(most, two_at(bytes, at, mask));
+        most = two_at(bytes, at, mask).max(most);
         at += length;
     }
     if at < until {
@@ -294,79 +235,75 @@ fn two_of(word: u64, more: usize) -> u16
 }
 
 // Whether two bytes of each word settle that none up to a place breaks its rule, which has a sign.
-fn settled_by_two(bytes: &[u8], place: usize, until: usize, rule: Rule) -> bool
-    requires { Sound rule × (2 ≤ rule.length) × (place ≤ until) × (until ≤ count bytes.now) × (1 ≤ rule.sign) }
-    ensures { result ≡ true → Checks bytes.now place until rule until }
+fn settled_by_two(bytes: &[u8], place: usize, until: usize, ruled: Ruled) -> bool
+    requires { (2 ≤ ruled.rule.length) × (place ≤ until) × (until ≤ count bytes.now) × (1 ≤ ruled.rule.sign) }
+    ensures { result ≡ true → Checks bytes.now place until ruled.rule until }
 {
-    let more = rule.length - 2;
+    let more = ruled.rule.length - 2;
     // what stands below the sign; the compiler would take a constant mask apart
-    let mask = two_of(rule.sign - 1, more);
-    two_by_length(bytes, place, until, rule.length, mask) < two_of(rule.greatest, more)
+    let mask = two_of(ruled.rule.sign - 1, more);
+    two_by_length(bytes, place, until, ruled.rule.length, mask) < two_of(ruled.rule.greatest, more)
 }
 
 // Whether the first byte of each word settles it, of a rule without a sign: few words one after the other, many at a time.
-fn settled_unsigned(bytes: &[u8], place: usize, until: usize, rule: Rule) -> bool
-    requires { Sound rule × (1 ≤ rule.length) × (place ≤ until) × (until ≤ count bytes.now) × (rule.sign ≡ 0) }
-    ensures { result ≡ true → Checks bytes.now place until rule until }
+fn settled_unsigned(bytes: &[u8], place: usize, until: usize, ruled: Ruled) -> bool
+    requires { (1 ≤ ruled.rule.length) × (place ≤ until) × (until ≤ count bytes.now) × (ruled.rule.sign ≡ 0) }
+    ensures { result ≡ true → Checks bytes.now place until ruled.rule until }
 {
-    let limit = limit_at(rule.greatest, rule.length - 1);
+    let limit = limit_at(ruled.rule.greatest, ruled.rule.length - 1);
     if until - place < FEW {
-        return all_below(bytes, place, until, rule.length, limit as u8);
+        return all_below(bytes, place, until, ruled.rule.length, limit as u8);
     }
-    many_below(bytes, place, until, rule.length, limit as u8)
+    many_below(bytes, place, until, ruled.rule.length, limit as u8)
 }
 
 // Whether their first bytes alone settle that no word up to a place breaks its rule.
-fn settled(bytes: &[u8], place: usize, until: usize, rule: Rule) -> bool
-    requires { Sound rule × (1 ≤ rule.length) × (place ≤ until) × (until ≤ count bytes.now) }
-    ensures { result ≡ true → Checks bytes.now place until rule until }
+fn settled(bytes: &[u8], place: usize, until: usize, ruled: Ruled) -> bool
+    requires { (1 ≤ ruled.rule.length) × (place ≤ until) × (until ≤ count bytes.now) }
+    ensures { result ≡ true → Checks bytes.now place until ruled.rule until }
 {
-    if rule.sign == 0 {
-        return settled_unsigned(bytes, place, until, rule);
+    if ruled.rule.sign == 0 {
+        return settled_unsigned(bytes, place, until, ruled);
     }
-    if rule.length == 1 {
+    if ruled.rule.length == 1 {
         return false;
     }
-    settled_by_two(bytes, place, until, rule)
+    settled_by_two(bytes, place, until, ruled)
 }
 
 // The byte of the words from a place on that breaks their rule, or `until` where none before that does.
-fn check(bytes: &[u8], place: usize, until: usize, rule: Rule, form: Form) -> usize
-    requires { Checkable bytes.now place until rule form }
-    ensures { Checks bytes.now place until rule result }
+fn check(bytes: &[u8], place: usize, until: usize, ruled: Ruled) -> usize
+    requires { Checkable bytes.now place until ruled.rule }
+    ensures { Checks bytes.now place until ruled.rule result }
 {
-    if settled(bytes, place, until, rule) {
+    if settled(bytes, place, until, ruled) {
         return until;
     }
-    check_each(bytes, place, until, rule, form)
+    check_each(bytes, place, until, ruled)
 }
 
-// Past so many words of a form and its rule, behind which `after` bytes of other words are to come.
+// The place past so many words of a form and its rule, or why there is none; behind them `after` bytes of other words are to come.
 pub(crate) fn pass(
     bytes: &[u8],
     place: usize,
     words: usize,
-    rule: Rule,
-    form: Form,
+    ruled: Ruled,
     after: usize,
-) -> Passed
-    requires { Sound rule × (words ≤ 2016) × (place ≤ count bytes.now) × (after ≤ 65536) × (rule ≡ rule_of form) × (rule.length ≡ form.length) }
-    ensures { PassedFrom bytes.now place words rule after result }
+) -> Result<usize, Stop>
+    requires { (words ≤ 2016) × (place ≤ count bytes.now) × (after ≤ 65536) }
+    ensures { PassedFrom bytes.now place words ruled.rule after result }
 {
-    if rule.length == 0 {
-        return Passed::To(place);
+    if ruled.rule.length == 0 {
+        return Ok(place);
     }
-    let end = place + words * rule.length;
+    let end = place + words * ruled.rule.length;
     let until = lesser(end, bytes.len());
-    let broken = check(bytes, place, until, rule, form);
+    let broken = check(bytes, place, until, ruled);
     if broken < until {
-        return Passed::Refused(Refusal {
-            reason: Reason::ValueRange,
-            place: broken,
-        });
+        return Err(Stop::Refused(Reason::ValueRange.at(broken)));
     }
     if until < end {
-        return Passed::Unfinished(end - until + after);
+        return Err(Stop::Unfinished(end - until + after));
     }
-    Passed::To(end)
+    Ok(end)
 }

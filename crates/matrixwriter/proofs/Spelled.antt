@@ -2,39 +2,26 @@
 use Prim.Native.Nat.{ℕ, zero, suc, ◌+◌, ◌*◌, ◌≤◌, ◌<◌, min}
 use mathlib.Core.Path.{◌≡◌, refl, sym, ap, ap₂, ◌∙◌}
 use mathlib.Core.Bool.{cond}
-use mathlib.Core.List.{List, [], ◌∷◌, ◌++◌, append_assoc, append-nil}
+use mathlib.Core.List.{List, [], ◌∷◌, ◌++◌}
 use native.Mathlib.Nat.{one-mul, zero-mul, mul-zero, pow-le-pow_right}
 use native.Mathlib.Numerals.{add-one}
 use native.Mathlib.Omega.{arith}
 use borrow.Author.Tests.{ne_eqb}
 use lib.Dec.{eqb}
-use lib.ListN.{length, take, drop, get_or, replicate, length-append}
-use lib.Seq.{drop-drop, get_or-drop}
+use lib.ListN.{length, take, drop, get_or, replicate, length-append, length-replicate}
+use lib.Seq.{drop-drop, get_or-drop, length-take-le}
 use Rattle.word.specs.Digits.{digits, value_of}
 use Rattle.word.specs.Many.{bytes_for}
 use Rattle.word.proofs.Digits.{value_more, value_take_below}
 use Rattle.matrix.specs.declared.Fields.{Fields}
 use Rattle.matrix.specs.Spelling.{packed, spelled}
 use Rattle.matrixcheck.specs.Given.{sent_words, deviation_marks}
-use Rattle.matrixcheck.proofs.Entries.{next_entry}
 use Rattle.matrixcheck.proofs.Fitting.{all_same}
 use Rattle.matrix.proofs.BitVector.{get_D_zeros}
 
 -- ---- words
 
 module _ (size : ℕ) where
-  pub spelled_more : (marks words : List ℕ) (i : ℕ) → i < length marks → spelled size (take (suc i) marks) words ≡ spelled size (take i marks) words ++ digits 256 (get_or marks i 0 * size) (get_or words i 0)
-  unfolding spelled
-  spelled_more [] words i h = absurd (omega arith)
-  spelled_more (mark ∷ marks) words zero h = append-nil (digits 256 (mark * size) (get_or words 0 0))
-  spelled_more (mark ∷ marks) words (suc i) h = rw (spelled_more marks (drop 1 words) i (omega arith), next_entry words i, append_assoc (digits 256 (mark * size) (get_or words 0 0)))
-
-  -- all are sent
-  pub all_spelled_more : (i : ℕ) (words : List ℕ) → spelled size (replicate (suc i) 1) words ≡ spelled size (replicate i 1) words ++ digits 256 size (get_or words i 0)
-  unfolding spelled
-  all_spelled_more zero words = rw (one-mul size) (append-nil (digits 256 size (get_or words 0 0)))
-  all_spelled_more (suc i) words = rw (all_spelled_more i (drop 1 words), next_entry words i, append_assoc (digits 256 (1 * size) (get_or words 0 0)))
-
   -- a word that is not sent does not matter
   word_sent : (none mark word : ℕ) → digits 256 (mark * size) (cond (eqb mark 0) none word) ≡ digits 256 (mark * size) word
   unfolding digits
@@ -46,18 +33,29 @@ module _ (size : ℕ) where
   spelled_sent none [] words = refl
   spelled_sent none (mark ∷ marks) words = ap₂ (λ (x y : List ℕ). x ++ y) (word_sent none mark (get_or words 0 0)) (spelled_sent none marks (drop 1 words))
 
+-- words past the marks have no bytes
+pub spelled_front : (size : ℕ) (marks words : List ℕ) (n : ℕ) → length marks ≤ n → spelled size marks (take n words) ≡ spelled size marks words
+unfolding spelled
+spelled_front size [] words n h = refl
+spelled_front size (mark ∷ marks) words zero h = absurd (omega arith)
+spelled_front size (mark ∷ marks) [] (suc n) h = refl
+spelled_front size (mark ∷ marks) (word ∷ words) (suc n) h = ap (λ (bs : List ℕ). digits 256 (mark * size) word ++ bs) (spelled_front size marks words n (omega arith))
+
 -- as bytes of words one after the other
-pub all_spelled : (size number : ℕ) (words : List ℕ) → number ≤ length words → bytes_for size (take number words) ≡ spelled size (replicate number 1) words
+pub all_spelled : (size : ℕ) (words : List ℕ) → bytes_for size words ≡ spelled size (replicate (length words) 1) words
 unfolding spelled bytes_for
-all_spelled size zero words h = refl
-all_spelled size (suc number) [] h = absurd (omega arith)
-all_spelled size (suc number) (word ∷ words) h = rw (one-mul size) (ap (λ (bs : List ℕ). digits 256 size word ++ bs) (all_spelled size number words (omega arith)))
+all_spelled size [] = refl
+all_spelled size (word ∷ words) = rw (one-mul size) (ap (λ (bs : List ℕ). digits 256 size word ++ bs) (all_spelled size words))
 
 -- words without bytes
 pub spelled_none : (marks words : List ℕ) → spelled 0 marks words ≡ []
 unfolding spelled digits
 spelled_none [] words = refl
 spelled_none (mark ∷ marks) words = rw (mul-zero mark, spelled_none marks (drop 1 words))
+
+-- the first words, as many as there are marks of 1
+pub first_spelled : (size n : ℕ) (words : List ℕ) → n ≤ length words → spelled size (replicate (length (take n words)) 1) (take n words) ≡ spelled size (replicate n 1) words
+first_spelled size n words enough = rw (length-take-le n words enough) (spelled_front size (replicate n 1) words n (omega (arith, length-replicate {A = ℕ} n 1)))
 
 -- the deviations of a meaning: none without bytes, and else those that are given
 module _ (f : Fields) (deviations : List ℕ) where

@@ -1,6 +1,7 @@
 // Writing a matrix pack into a lent buffer: everything is checked before the first byte is written.
 #![tactic(auto)]
 
+ghost use Rattle.verdict.specs.Answers.{written};
 ghost use Rattle.verdict.specs.Writing.{WrittenBy};
 ghost use Rattle.matrix.specs.Spelling.{bytes_of};
 ghost use Rattle.matrixcheck.specs.Given.{meaning_given};
@@ -8,8 +9,8 @@ ghost use Rattle.matrixwriter.specs.Writing.{writer_rows};
 
 use crate::put::write_given;
 use matrix::Fields;
-use matrixcheck::check::{Checked, check};
-use verdict::Verdict;
+use matrixcheck::check::check;
+use verdict::Refusal;
 
 mod put;
 
@@ -22,12 +23,9 @@ pub fn write(
     coefficients: &[u64],
     marks: &[u8],
     out: &mut [u8],
-) -> Verdict
-    ensures { WrittenBy (writer_rows mapped fields deviations.now coefficients.now marks.now out.old) (bytes_of (meaning_given fields deviations.now coefficients.now marks.now)) out.old 0 result out.new }
+) -> Result<usize, Refusal>
+    ensures { WrittenBy (writer_rows mapped fields deviations.now coefficients.now marks.now out.old) (bytes_of (meaning_given fields deviations.now coefficients.now marks.now)) out.old 0 (written result) out.new }
 {
-    let checked = check(fields, mapped, deviations, coefficients, marks);
-    match checked {
-        Checked::Sent(sent) => write_given(fields, sent, deviations, coefficients, marks, out),
-        Checked::Refused(refusal) => Verdict::Refused(refusal),
-    }
+    let sent = check(fields, mapped, deviations, coefficients, marks)?;
+    write_given(fields, sent, deviations, coefficients, marks, out)
 }

@@ -1,5 +1,6 @@
 // The bytes of a lawful pack, put one after the other where there is room.
 ghost use Rattle.std.specs.Prelude.{◌≡◌, true, false, ◌++◌, ℕ, ◌+◌, ◌*◌, ◌^◌, ◌≤◌, ◌<◌, min, length as count, take, drop, replicate, get_or};
+ghost use Rattle.verdict.specs.Answers.{written};
 ghost use Rattle.verdict.specs.Writing.{put, room_rows, WrittenBy};
 ghost use Rattle.word.specs.Digits.{digits, value_of};
 ghost use Rattle.matrix.specs.Meaning.{pairs, sum, LawfulFields, Lawful};
@@ -11,7 +12,8 @@ ghost use Rattle.matrixwriter.specs.Sending.{LawfulGiven, Sendable, DeviationsFi
 
 use counts::{bit_of, header_bytes, pairs_of, vector_bytes};
 use matrix::Fields;
-use verdict::{Reason, Verdict, refuse};
+use verdict::{Reason, Refusal};
+use word::bytes::byte_at;
 use wordwriter::bytes::write_at;
 use wordwriter::many::write_all;
 
@@ -20,7 +22,7 @@ fn put_word(out: &mut [u8], place: usize, length: usize, word: u64)
     requires { (length ≤ 8) × ((word < 256 ^ length) × (place + length ≤ count out.old)) }
     ensures { out.new ≡ put out.old place (digits 256 length word) }
 {
-    write_at(out, place, length, word);
+    let _ = write_at(out, place, length, word);
 }
 
 // A word at a place if its mark is 1.
@@ -68,71 +70,46 @@ fn put_header(f: Fields, out: &mut [u8])
     put_double(f, out);
 }
 
-// The mark of a pair, 0 where there are no more.
-fn mark_or(marks: &[u8], pair: usize, pairs: usize) -> usize
-    requires { (pairs ≤ count marks.now) × ((i : ℕ) → get_or (take pairs marks.now) i 0 ≤ 1) }
-    ensures { (result ≡ get_or (take pairs marks.now) pair 0) × (result ≤ 1) }
-{
-    if pair < pairs {
-        return marks[pair] as usize;
-    }
-    0
-}
-
-// Eight marks from a pair on as a byte, the first in its top bit.
-fn vector_byte(marks: &[u8], pair: usize, pairs: usize) -> u8
-    requires { (pairs ≤ count marks.now) × ((pair ≤ 2048) × ((i : ℕ) → get_or (take pairs marks.now) i 0 ≤ 1)) }
-    ensures { result ≡ value_of 2 (take 8 (drop pair (take pairs marks.now) ++ replicate 8 0)) }
+// Eight marks from a pair on as a byte, the first in its top bit; 0 where there are no more.
+fn vector_byte(marks: &[u8], pair: usize) -> u8
+    requires { (pair ≤ 2048) × ((i : ℕ) → get_or marks.now i 0 ≤ 1) }
+    ensures { result ≡ value_of 2 (take 8 (drop pair marks.now ++ replicate 8 0)) }
 {
     let mut value: usize = 0;
-    let mut i = 0;
-    while i < 8 {
-        value = value * 2 + mark_or(marks, pair + i, pairs);
-        i += 1;
+    for i in 0..8 {
+        value = value * 2 + byte_at(marks, pair + i);
     }
     value as u8
 }
 
 // So many bytes of the bit vector at a place.
-fn put_vector(out: &mut [u8], place: usize, marks: &[u8], pairs: usize, bytes: usize)
-    requires { (pairs ≤ count marks.now) × ((bytes ≤ 252) × ((place + bytes ≤ count out.old) × ((i : ℕ) → get_or (take pairs marks.now) i 0 ≤ 1))) }
-    ensures { out.new ≡ put out.old place (packed bytes (take pairs marks.now)) }
+fn put_vector(out: &mut [u8], place: usize, marks: &[u8], bytes: usize)
+    requires { (bytes ≤ 252) × ((place + bytes ≤ count out.old) × ((i : ℕ) → get_or marks.now i 0 ≤ 1)) }
+    ensures { out.new ≡ put out.old place (packed bytes marks.now) }
 {
-    let mut i = 0;
-    while i < bytes {
-        out[place + i] = vector_byte(marks, 8 * i, pairs);
-        i += 1;
+    for i in 0..bytes {
+        out[place + i] = vector_byte(marks, 8 * i);
     }
 }
 
-// So many words of a length, one after the other.
-fn put_words(out: &mut [u8], place: usize, length: usize, words: &[u64], number: usize)
-    requires { (length ≤ 8) × ((number ≤ count words.now) × ((place + number * length ≤ count out.old) × ((i : ℕ) → i < number → get_or words.now i 0 < 256 ^ length))) }
-    ensures { out.new ≡ put out.old place (spelled length (replicate number 1) words.now) }
+// Words of a length, one after the other.
+fn put_words(out: &mut [u8], place: usize, length: usize, words: &[u64])
+    requires { (length ≤ 8) × ((place + count words.now * length ≤ count out.old) × ((i : ℕ) → i < count words.now → get_or words.now i 0 < 256 ^ length)) }
+    ensures { out.new ≡ put out.old place (spelled length (replicate (count words.now) 1) words.now) }
 {
-    let end = place + number * length;
-    write_all(&mut out[place..end], length, &words[..number]);
+    let end = place + words.len() * length;
+    let _ = write_all(&mut out[place..end], length, words);
 }
 
-// Those of so many words whose mark is 1, one after the other.
-fn put_sent_words(
-    out: &mut [u8],
-    place: usize,
-    length: usize,
-    words: &[u64],
-    marks: &[u8],
-    number: usize,
-)
-    requires { Sendable length (take number marks.now) words.now × ((number ≤ count words.now) × ((number ≤ count marks.now) × (place + sum (take number marks.now) * length ≤ count out.old))) }
-    ensures { out.new ≡ put out.old place (spelled length (take number marks.now) words.now) }
+// Those of the words whose mark is 1, one after the other.
+fn put_sent_words(out: &mut [u8], place: usize, length: usize, words: &[u64], marks: &[u8])
+    requires { Sendable length marks.now words.now × ((count words.now ≡ count marks.now) × (place + sum marks.now * length ≤ count out.old)) }
+    ensures { out.new ≡ put out.old place (spelled length marks.now words.now) }
 {
     let mut at = place;
-    let mut i = 0;
-    while i < number {
-        let mark = marks[i];
-        put_sent(out, at, length, mark, words[i]);
-        at += mark as usize * length;
-        i += 1;
+    for (mark, word) in marks.iter().zip(words) {
+        put_sent(out, at, length, *mark, *word);
+        at += *mark as usize * length;
     }
 }
 
@@ -144,19 +121,18 @@ fn put_coefficients(
     length: usize,
     words: &[u64],
     marks: &[u8],
-    number: usize,
 )
-    requires { Sendable length (take number marks.now) words.now × ((number ≤ count words.now) × ((number ≤ count marks.now) × ((place + sum (take number marks.now) * length ≤ count out.old) × (sparse ≡ false → (i : ℕ) → i < number → get_or (take number marks.now) i 0 ≡ min 1 length)))) }
-    ensures { out.new ≡ put out.old place (spelled length (take number marks.now) words.now) }
+    requires { Sendable length marks.now words.now × ((count words.now ≡ count marks.now) × ((place + sum marks.now * length ≤ count out.old) × (sparse ≡ false → (i : ℕ) → i < count marks.now → get_or marks.now i 0 ≡ min 1 length))) }
+    ensures { out.new ≡ put out.old place (spelled length marks.now words.now) }
 {
     if sparse {
-        put_sent_words(out, place, length, words, marks, number);
+        put_sent_words(out, place, length, words, marks);
         return;
     }
     if length == 0 {
         return;
     }
-    put_words(out, place, length, words, number);
+    put_words(out, place, length, words);
 }
 
 // The deviations, if they have bytes.
@@ -167,7 +143,7 @@ fn put_deviations(f: Fields, deviations: &[u64], out: &mut [u8], place: usize)
     if f.slen == 0 {
         return;
     }
-    put_words(out, place, f.slen, deviations, f.n);
+    put_words(out, place, f.slen, &deviations[..f.n]);
 }
 
 // How many bytes a pack takes of which so many coefficients are sent.
@@ -189,9 +165,16 @@ fn put_given(f: Fields, deviations: &[u64], coefficients: &[u64], marks: &[u8], 
     let first = header + vector;
     let second = first + f.n * f.slen;
     put_header(f, out);
-    put_vector(out, header, marks, pairs, vector);
+    put_vector(out, header, &marks[..pairs], vector);
     put_deviations(f, deviations, out, first);
-    put_coefficients(f.cs, out, second, f.clen, coefficients, marks, pairs);
+    put_coefficients(
+        f.cs,
+        out,
+        second,
+        f.clen,
+        &coefficients[..pairs],
+        &marks[..pairs],
+    );
 }
 
 // Writes what is lawful, where there is room.
@@ -202,14 +185,14 @@ pub(crate) fn write_given(
     coefficients: &[u64],
     marks: &[u8],
     out: &mut [u8],
-) -> Verdict
+) -> Result<usize, Refusal>
     requires { LawfulGiven f sent deviations.now coefficients.now marks.now }
-    ensures { WrittenBy (room_rows (count (bytes_of (meaning_given f deviations.now coefficients.now marks.now))) (count out.old)) (bytes_of (meaning_given f deviations.now coefficients.now marks.now)) out.old 0 result out.new }
+    ensures { WrittenBy (room_rows (count (bytes_of (meaning_given f deviations.now coefficients.now marks.now))) (count out.old)) (bytes_of (meaning_given f deviations.now coefficients.now marks.now)) out.old 0 (written result) out.new }
 {
     let length = length_of(f, sent);
     if out.len() < length {
-        return refuse(Reason::SmallBuffer);
+        return Err(Reason::SmallBuffer.at(0));
     }
     put_given(f, deviations, coefficients, marks, out);
-    Verdict::Complete(length)
+    Ok(length)
 }

@@ -7,8 +7,7 @@ use native.Mathlib.Omega.{arith}
 use lib.ListN.{length, get_or, drop, length-append, length-drop}
 use lib.Seq.{drop-drop, get_or-drop}
 use borrow.Author.Tests.{lt-ltb, le-ltb}
-use Rattle.number.specs.declared.Drawn.TheVariants.{Number}
-use Rattle.number.specs.Draw.{draw_at}
+use Rattle.number.specs.Draw.{drawn_number, draw_at}
 use Rattle.number.specs.Octets.{high, octets, numbers}
 use Rattle.number.specs.Front.{front, Fronts, fronts}
 use Rattle.number.proofs.Octets.{Sevens, none, more, begun, high_none, high_more, Shortest, drawn_shortest}
@@ -38,7 +37,7 @@ front_octets v t =
 
 -- ---- a number drawn at a place
 
-module _ (bytes : List ℕ) (place : ℕ) (positive : Bool) (most v next : ℕ) (b : (i : ℕ) → get_or bytes i 0 < 256) (e : draw_at bytes place positive most ≡ Number v next) where
+module _ (bytes : List ℕ) (place : ℕ) (positive : Bool) (most v next : ℕ) (b : (i : ℕ) → get_or bytes i 0 < 256) (e : draw_at bytes place positive most ≡ drawn_number v next) where
   pub shortest_there : Shortest (drop place bytes) place positive most v next
   shortest_there = drawn_shortest (drop place bytes) place positive most v next (λ i. rw get_or-drop (b (place + i))) e
 

@@ -7,12 +7,14 @@ use native.Mathlib.Omega.{arith}
 use lib.ListN.{length, get_or, drop, length-append}
 use lib.Seq.{drop-append_seam}
 use borrow.Author.Tests.{eq-eqb, ne_eqb}
+use Rattle.std.specs.Prelude.{Result, Err}
 use Rattle.verdict.specs.declared.Reason.{Reason}
 use Rattle.verdict.specs.declared.Refusal.{Refusal}
 use Rattle.number.specs.declared.Effect.{Effect}
-use Rattle.number.specs.declared.Drawn.{Drawn}
-use Rattle.number.specs.declared.Drawn.TheVariants.{Number, Cut, Refused}
-use Rattle.number.specs.Draw.{after, draw_on}
+use Rattle.number.specs.declared.Number.{Number}
+use Rattle.number.specs.declared.Undrawn.{Undrawn}
+use Rattle.number.specs.declared.Undrawn.TheVariants.{Cut, Refused}
+use Rattle.number.specs.Draw.{drawn_number, after, draw_on}
 use Rattle.number.specs.Octets.{high_in, high, octets}
 use Rattle.number.proofs.Octet.{Does, ends as octet-ends, goes as octet-goes, fails as octet-fails, does, effect_ends, effect_goes}
 
@@ -94,7 +96,7 @@ module _ (v d place : ℕ) (positive : Bool) (most : ℕ) (t : List ℕ) where
   unfolding draw_on
   goes_drawn p h = rw (effect_goes d v positive most p h)
 
-  ends_drawn : d < 128 → (positive ≡ true → 0 < v * 128 + d) → v * 128 + d ≤ most → draw_on (d ∷ t) place v positive most ≡ Number (v * 128 + d) (place + 1)
+  ends_drawn : d < 128 → (positive ≡ true → 0 < v * 128 + d) → v * 128 + d ≤ most → draw_on (d ∷ t) place v positive most ≡ drawn_number (v * 128 + d) (place + 1)
   unfolding draw_on
   ends_drawn l p h = rw (effect_ends d v positive most l p h)
 
@@ -108,14 +110,14 @@ module _ (place : ℕ) (positive : Bool) (most : ℕ) where
 pub high_drawn : (v place : ℕ) (positive : Bool) (most : ℕ) (t : List ℕ) → v * 128 ≤ most → draw_on (high v ++ t) place 0 positive most ≡ draw_on t (place + length (high v)) v positive most
 high_drawn v place positive most t h = begun_drawn place positive most (begun v) t h
 
-pub octets_drawn : (v place : ℕ) (positive : Bool) (most : ℕ) (t : List ℕ) → (positive ≡ true → 0 < v) → v ≤ most → draw_on (octets v ++ t) place 0 positive most ≡ Number v (place + length (octets v))
+pub octets_drawn : (v place : ℕ) (positive : Bool) (most : ℕ) (t : List ℕ) → (positive ≡ true → 0 < v) → v ≤ most → draw_on (octets v ++ t) place 0 positive most ≡ drawn_number v (place + length (octets v))
 unfolding octets
 octets_drawn v place positive most t p h =
     let e : v / 128 * 128 + v % 128 ≡ v = omega arith in
     rw (append_assoc, length-append)
     (high_drawn (v / 128) place positive most (v % 128 ∷ t) (omega arith)
     ∙ ends_drawn (v / 128) (v % 128) (place + length (high (v / 128))) positive most t (omega arith) (λ q. rw e (p q)) (rw e h)
-    ∙ ap₂ Number e (omega arith))
+    ∙ ap₂ drawn_number e (omega arith))
 
 -- a number drawn stands in its shortest form, and keeps its bounds
 pub record Shortest (s : List ℕ) (place : ℕ) (positive : Bool) (most v next : ℕ) : Type 0 where
@@ -132,31 +134,31 @@ high_octet v d o t e b p = rw (high_more v d (omega arith) p, e, append_assoc)
 
 -- the ways that drawing goes, from a number begun with a value
 module _ (positive : Bool) (most : ℕ) where
-  data Draws : List ℕ → ℕ → ℕ → Drawn → Type 0 where
-    cuts : {place value : ℕ} → Draws [] place value (Cut value)
-    ends : {o value : ℕ} {t : List ℕ} {place : ℕ} → o < 128 → (positive ≡ true → 0 < value * 128 + o) → value * 128 + o ≤ most → Draws (o ∷ t) place value (Number (value * 128 + o) (place + 1))
-    goes : {o value : ℕ} {t : List ℕ} {place : ℕ} {x : Drawn} (d : ℕ) → o ≡ 128 + d → 0 < value * 128 + d → (value * 128 + d) * 128 ≤ most → Draws t (place + 1) (value * 128 + d) x → Draws (o ∷ t) place value x
-    fails : {o value : ℕ} {t : List ℕ} {place : ℕ} {reason : Reason} → Draws (o ∷ t) place value (Refused (record { reason = reason; place = place }))
+  data Draws : List ℕ → ℕ → ℕ → Result Number Undrawn → Type 0 where
+    cuts : {place value : ℕ} → Draws [] place value (Err (Cut value))
+    ends : {o value : ℕ} {t : List ℕ} {place : ℕ} → o < 128 → (positive ≡ true → 0 < value * 128 + o) → value * 128 + o ≤ most → Draws (o ∷ t) place value (drawn_number (value * 128 + o) (place + 1))
+    goes : {o value : ℕ} {t : List ℕ} {place : ℕ} {x : Result Number Undrawn} (d : ℕ) → o ≡ 128 + d → 0 < value * 128 + d → (value * 128 + d) * 128 ≤ most → Draws t (place + 1) (value * 128 + d) x → Draws (o ∷ t) place value x
+    fails : {o value : ℕ} {t : List ℕ} {place : ℕ} {reason : Reason} → Draws (o ∷ t) place value (Err (Refused (record { reason = reason; place = place })))
 
   draws : (s : List ℕ) (place value : ℕ) → Draws s place value (draw_on s place value positive most)
   unfolding draw_on
   draws [] place value = cuts
   draws (o ∷ t) place value = go (does o value positive most) (λ v. draws t (place + 1) v)
     where
-      go : {e : Effect} → Does o value positive most e → ((v : ℕ) → Draws t (place + 1) v (draw_on t (place + 1) v positive most)) → Draws (o ∷ t) place value (after e place (λ v. draw_on t (place + 1) v positive most))
+      go : {e : Result Effect Reason} → Does o value positive most e → ((v : ℕ) → Draws t (place + 1) v (draw_on t (place + 1) v positive most)) → Draws (o ∷ t) place value (after e place (λ v. draw_on t (place + 1) v positive most))
       go (octet-ends l p h) ih = ends l p h
       go (octet-goes d e p h) ih = goes d e p h (ih (value * 128 + d))
       go octet-fails ih = fails
 
-  begun_refused : {s : List ℕ} {place value : ℕ} {r : Refusal} → Draws s place value (Refused r) → (place ≤ r.place) × (r.place < place + length s)
+  begun_refused : {s : List ℕ} {place value : ℕ} {r : Refusal} → Draws s place value (Err (Refused r)) → (place ≤ r.place) × (r.place < place + length s)
   begun_refused (goes d o p h w) = let x = begun_refused w in omega arith
   begun_refused fails = omega arith
 
-  begun_cut : {s : List ℕ} {place value v : ℕ} → Draws s place value (Cut v) → ((i : ℕ) → get_or s i 0 < 256) → value * 128 ≤ most → (high value ++ s ≡ high v) × (v * 128 ≤ most)
+  begun_cut : {s : List ℕ} {place value v : ℕ} → Draws s place value (Err (Cut v)) → ((i : ℕ) → get_or s i 0 < 256) → value * 128 ≤ most → (high value ++ s ≡ high v) × (v * 128 ≤ most)
   begun_cut (cuts {value}) b g = (append-nil (high value), g)
   begun_cut (goes {o} {value} {t} d e p h w) b g = rw (← high_octet value d o t e (b 0) p) (begun_cut w (λ i. b (suc i)) h)
 
-  begun_shortest : (start : ℕ) {s : List ℕ} {place value v next : ℕ} → Draws s place value (Number v next) → ((i : ℕ) → get_or s i 0 < 256) → place ≡ start + length (high value) → Shortest (high value ++ s) start positive most v next
+  begun_shortest : (start : ℕ) {s : List ℕ} {place value v next : ℕ} → Draws s place value (drawn_number v next) → ((i : ℕ) → get_or s i 0 < 256) → place ≡ start + length (high value) → Shortest (high value ++ s) start positive most v next
   begun_shortest start (ends {o} {value} {t} l p h) b g =
       record {
         behind = rw (octets_more value o l, length-append) (omega arith);
@@ -168,11 +170,11 @@ module _ (positive : Bool) (most : ℕ) where
       let far : place + 1 ≡ start + length (high (value * 128 + d)) = rw (high_more value d (omega (arith, b 0)) p, length-append) (omega arith) in
       rw (← high_octet value d o t e (b 0) p) (begun_shortest start w (λ i. b (suc i)) far)
 
-pub drawn_refused : (s : List ℕ) (place : ℕ) (positive : Bool) (most : ℕ) (r : Refusal) → draw_on s place 0 positive most ≡ Refused r → (place ≤ r.place) × (r.place < place + length s)
+pub drawn_refused : (s : List ℕ) (place : ℕ) (positive : Bool) (most : ℕ) (r : Refusal) → draw_on s place 0 positive most ≡ Err (Refused r) → (place ≤ r.place) × (r.place < place + length s)
 drawn_refused s place positive most r e = begun_refused positive most (rw e at (draws positive most s place 0))
 
-pub drawn_cut : (s : List ℕ) (place : ℕ) (positive : Bool) (most v : ℕ) → ((i : ℕ) → get_or s i 0 < 256) → draw_on s place 0 positive most ≡ Cut v → (s ≡ high v) × (v * 128 ≤ most)
+pub drawn_cut : (s : List ℕ) (place : ℕ) (positive : Bool) (most v : ℕ) → ((i : ℕ) → get_or s i 0 < 256) → draw_on s place 0 positive most ≡ Err (Cut v) → (s ≡ high v) × (v * 128 ≤ most)
 drawn_cut s place positive most v b e = rw high_none at (begun_cut positive most (rw e at (draws positive most s place 0)) b (omega arith))
 
-pub drawn_shortest : (s : List ℕ) (place : ℕ) (positive : Bool) (most v next : ℕ) → ((i : ℕ) → get_or s i 0 < 256) → draw_on s place 0 positive most ≡ Number v next → Shortest s place positive most v next
+pub drawn_shortest : (s : List ℕ) (place : ℕ) (positive : Bool) (most v next : ℕ) → ((i : ℕ) → get_or s i 0 < 256) → draw_on s place 0 positive most ≡ drawn_number v next → Shortest s place positive most v next
 drawn_shortest s place positive most v next b e = rw high_none at (begun_shortest positive most place (rw e at (draws positive most s place 0)) b (rw high_none (omega arith)))

@@ -8,8 +8,8 @@ use denote.Triple.Clauses.{AtExit}
 use Rattle.verdict.proofs.OneAnswer.{OneAnswer}
 use Rattle.number.proofs.draw_from.Kinds as draw-from
 use Rattle.number.proofs.draw_from.Reads as draw-from-reads
-use Rattle.number.specs.contracts.draw as draw
-use Rattle.number.specs.contracts.numbers_at as numbers-at
+use Rattle.number.specs.contracts.Numbers.draw as draw
+use Rattle.number.specs.contracts.Numbers.at as numbers-at
 
 module _ (w : World) (κs : Lfts 1) where
   -- where a struct holds the slice Rattle reads no clause: the `ensures` themselves, in any model

@@ -11,8 +11,7 @@ use Rattle.verdict.specs.declared.Verdict.TheVariants.{Complete}
 use Rattle.verdict.specs.Writing.{put, room_rows, WrittenBy}
 use Rattle.verdict.proofs.Putting.{put_one, put_before, length_put, drop_put}
 use Rattle.verdict.proofs.Deciding.{written_well}
-use Rattle.number.specs.declared.Drawn.TheVariants.{Number}
-use Rattle.number.specs.Draw.{draw_at}
+use Rattle.number.specs.Draw.{drawn_number, draw_at}
 use Rattle.number.specs.Octets.{high, octets}
 use Rattle.number.proofs.Octets.{octets_some, octets_drawn}
 use Rattle.number.proofs.Counts.{octets_last, high_last, length_octets, length_high, length_high_none}
@@ -69,14 +68,11 @@ module _ (out₀ : List ℕ) (place value : ℕ) (room : place + length (octets 
       let whole : length (octets value) ≡ left + length s.behind = rw (s.parts, length-append, s.counted) in
       ap length s.is ∙ length_put out₀ (place + left) s.behind (omega arith)
 
-  pub stored_inside : (left rest : ℕ) (out : List ℕ) → Stored out₀ place value left rest out → place + left < length out
-  stored_inside left rest out s = omega (arith, s.fewer, stored_length left rest out s)
-
 -- ---- what was written
 
 -- drawing what was written gives the value, and the place behind it
 pub written_drawn : (value : ℕ) (out : List ℕ) (place n : ℕ) (out' : List ℕ) (positive : Bool) (most : ℕ) → WrittenBy (room_rows (length (octets value)) (length out - place)) (octets value) out place (Complete n) out'
-    → (positive ≡ true → 0 < value) → value ≤ most → draw_at out' place positive most ≡ Number value (place + n)
+    → (positive ≡ true → 0 < value) → value ≤ most → draw_at out' place positive most ≡ drawn_number value (place + n)
 written_drawn value out place n out' positive most w p h =
     let x = written_well (room_rows (length (octets value)) (length out - place)) (octets value) out place n out' w in
     let room : length (octets value) ≤ length out - place = ltb-false (length out - place) (length (octets value)) x.0.0 in

@@ -8,7 +8,7 @@ ghost use Rattle.outcome.specs.Refusing.{refusing};
 use verdict::{Reason, Refusal};
 
 // The kind of pack that a frame's key names.
-#[derive(Clone, Copy, Drop)]
+#[derive(Clone, Copy, PartialEq, Eq)]
 pub enum Kind {
     Matrix,
     Array,
@@ -16,7 +16,7 @@ pub enum Kind {
 }
 
 // What is said of a frame: a whole pack of so many bytes, one with so many missing, a refusal, or a line that is not closed.
-#[derive(Clone, Copy, Drop)]
+#[derive(Clone, Copy, PartialEq, Eq)]
 pub enum Outcome {
     Ok(usize),
     Cut(usize),
@@ -25,30 +25,33 @@ pub enum Outcome {
 }
 
 // The answer to a frame, or to its line.
-#[derive(Clone, Copy, Drop)]
+#[derive(Clone, Copy, PartialEq, Eq)]
 pub struct FrameAnswer {
     pub kind: Kind,
     pub outcome: Outcome,
 }
 
-// A frame's own refusal.
-pub fn refuse(kind: Kind, reason: Reason) -> FrameAnswer
-    ensures { result ≡ refusing kind reason }
-{
-    let refusal = Refusal { reason, place: 0 };
-    FrameAnswer {
-        kind,
-        outcome: Outcome::Bad(refusal),
+impl Kind {
+    // A frame's own refusal.
+    pub fn refuse(self, reason: Reason) -> FrameAnswer
+        ensures { result ≡ refusing self reason }
+    {
+        FrameAnswer {
+            kind: self,
+            outcome: Outcome::Bad(reason.at(0)),
+        }
     }
 }
 
 // The letter of a kind, in a report line and for C.
-pub fn letter_of(kind: Kind) -> u8
-    ensures { result ≡ letter_of kind }
-{
-    match kind {
-        Kind::Matrix => b'S',
-        Kind::Array => b'M',
-        Kind::Unknown => b'-',
+impl From<Kind> for u8 {
+    ghost from_gives = { λ kind letter. letter ≡ letter_of kind };
+
+    fn from(kind: Kind) -> u8 {
+        match kind {
+            Kind::Matrix => b'S',
+            Kind::Array => b'M',
+            Kind::Unknown => b'-',
+        }
     }
 }

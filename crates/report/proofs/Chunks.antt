@@ -1,20 +1,18 @@
 -- How a chunk is fed line by line: a piece without LF, a line that closes, one that has no room. Assumes nothing.
 use Prim.Native.Nat.{ℕ, suc, ◌+◌, ◌-◌, ◌≤◌, ◌<◌}
 use mathlib.Core.Path.{◌≡◌, refl, sym, ap, ap₂, ◌∙◌}
-use mathlib.Core.Bool.{Bool, true, false, ◌||◌, cond, false≢true}
+use mathlib.Core.Bool.{Bool, true, false, cond}
 use mathlib.Core.List.{List, [], ◌∷◌, ◌++◌, append_assoc, append-nil}
 use native.Mathlib.Omega.{arith}
-use borrow.Author.Tests.{lt-ltb, le-ltb, eq-eqb, eqb-true, eqb-false, ltb-true, ltb-false}
-use lib.Dec.{eqb, ltb}
+use borrow.Author.Tests.{lt-ltb, le-ltb, eq-eqb}
+use lib.Dec.{eqb}
 use lib.ListN.{length, drop, get_or, length-append, length-drop, drop_of_length-le}
 use lib.Seq.{drop-cons, drop-drop, get_or-drop}
-use Rattle.verdict.specs.declared.Reason.TheVariants.{SmallBuffer}
 use Rattle.report.specs.declared.feed.State.{State}
-use Rattle.report.specs.declared.feed.Going.{Going}
-use Rattle.report.specs.declared.feed.Feeding.{Feeding}
-use Rattle.report.specs.declared.feed.Feeding.TheVariants.{Fed as FedCase, Refused}
-use Rattle.lines.specs.declared.Taking.{Taking}
-use Rattle.lines.specs.declared.Taking.TheVariants.{Took}
+use Rattle.report.specs.declared.feed.Fed.{Fed as FedTo}
+use Rattle.std.specs.Prelude.{Result, Ok}
+use Rattle.verdict.specs.declared.Refusal.{Refusal}
+use Rattle.lines.specs.declared.Taken.{Taken}
 use Rattle.lines.specs.Taking.{longest_line, piece_of, kept, held_on, kept_all, held_all, TakenBy}
 use Rattle.lines.proofs.Pieces.{piece_none, piece_more, piece_within, piece_stops}
 use Rattle.text.specs.Text.{text_of}
@@ -22,9 +20,9 @@ use Rattle.verdict.specs.Writing.{put}
 use Rattle.text.specs.Writing.{room}
 use Rattle.report.specs.Line.{next_number}
 use Rattle.report.specs.Feeding.{held_answer, Came, behind, nothing, came_of, answer_for, Fed, Kept, too_small, FedBy}
-use Rattle.report.specs.Passing.{further, Sofar, Closed, held_in, piece_in}
+use Rattle.report.specs.Passing.{further, Sofar, KeptFrom, Closed}
 use Rattle.verdict.proofs.Putting.{put_none, put_put, length_put}
-use Rattle.verdict.proofs.Cases.{either, by_test}
+use Rattle.verdict.proofs.Cases.{either}
 
 further_none : (came : Came) → came ≡ further 0 [] came
 further_none came = ap (λ (k : ℕ). record { number = came.number; held = came.held; buffer = came.buffer; text = came.text; taken = k }) (omega arith)
@@ -67,25 +65,24 @@ module _ (chunk : List ℕ) where
     unfolding came_of
     came_close h e r = let n : to + 1 ≡ suc to = omega arith in rw (drop-cons chunk to 0 h, eq-eqb (get_or chunk to 0) 10 e, le-ltb left room r, n) (behind_further (text_of number (held_answer buffer held)) _)
 
--- what is taken of a chunk: how many characters, how many are held, and the line buffer
-pub record Taken (held : ℕ) (chunk buffer : List ℕ) (held' count : ℕ) (buffer' : List ℕ) : Type 0 where
-  pub counted : count ≡ length (piece_of chunk)
-  pub holds : held' ≡ held_all held (length (piece_of chunk))
-  pub keeps : buffer' ≡ kept_all buffer held (piece_of chunk)
-
-pub taken_all : (held : ℕ) (chunk buffer : List ℕ) (answer : Taking) (buffer' : List ℕ) → longest_line ≤ length buffer → TakenBy held chunk buffer answer buffer' → (held' count : ℕ) → held' ≡ held_in answer → count ≡ piece_in answer
-    → Taken held chunk buffer held' count buffer'
-taken_all held chunk buffer answer buffer' l p held' count h c =
+-- so many characters are taken
+pub taken_count : (held : ℕ) (chunk buffer : List ℕ) (answer : Result Taken Refusal) (buffer' : List ℕ) (taken : Taken) → longest_line ≤ length buffer → TakenBy held chunk buffer answer buffer' → answer ≡ Ok taken
+    → taken.count ≡ length (piece_of chunk)
+taken_count held chunk buffer answer buffer' taken l p e =
     let t = le-ltb (length buffer) longest_line l in
-    let s : answer ≡ Took (held_all held (length (piece_of chunk))) (length (piece_of chunk)) = p.said ∙ rw t in
-    record { counted = c ∙ ap piece_in s; holds = h ∙ ap held_in s; keeps = p.left ∙ rw t }
+    let s : Ok taken ≡ Ok (record { held = held_all held (length (piece_of chunk)); count = length (piece_of chunk) }) = sym e ∙ p.said ∙ rw t in
+    let k : taken ≡ record { held = held_all held (length (piece_of chunk)); count = length (piece_of chunk) } = cc in
+    ap (λ (x : Taken). x.count) k
 
--- it is within the chunk
-pub taken_to : (chunk : List ℕ) (at : Going) (buffer : List ℕ) → at.taken ≤ length chunk → (held' count : ℕ) (buffer' : List ℕ) → Taken at.held (drop at.taken chunk) buffer held' count buffer' → at.taken + count ≤ length chunk
-taken_to chunk at buffer far held' count buffer' took = omega (arith, took.counted, piece_within (drop at.taken chunk), length-drop at.taken chunk)
+-- behind the characters that were kept LF stands, or the chunk ends
+pub piece_end : (at next : FedTo) (chunk buffer buffer' : List ℕ) → KeptFrom at chunk buffer next buffer' → next.taken < length chunk → get_or chunk next.taken 0 ≡ 10
+piece_end at next chunk buffer buffer' kept' h =
+    let k = length (piece_of (drop at.taken chunk)) in
+    let e : at.taken + k ≡ next.taken = sym (ap (λ (x : FedTo). x.taken) kept'.stands) in
+    rw (← e) (sym (get_or-drop at.taken chunk k 0) ∙ piece_stops (drop at.taken chunk) (omega (arith, e, h, length-drop at.taken chunk)))
 
 module _ (state : State) (chunk buffer₀ out₀ : List ℕ) where
-  pub sofar_none : Sofar state chunk buffer₀ out₀ (record { number = state.number; held = state.held; taken = 0; written = 0; more = true }) buffer₀ out₀
+  pub sofar_none : Sofar state chunk buffer₀ out₀ (record { state = state; taken = 0; written = 0 }) buffer₀ out₀
   sofar_none =
       let e : length out₀ - 0 ≡ length out₀ = omega arith in
       record {
@@ -97,113 +94,72 @@ module _ (state : State) (chunk buffer₀ out₀ : List ℕ) where
         came = rw e (further_none (came_of state.number state.held buffer₀ (length out₀) chunk));
       }
 
-  module _ (at : Going) (buffer out : List ℕ) (z : Sofar state chunk buffer₀ out₀ at buffer out) where
+  module _ (at : FedTo) (buffer out : List ℕ) (z : Sofar state chunk buffer₀ out₀ at buffer out) where
     pub sofar_length : length out ≡ length out₀
     sofar_length = ap length z.wrote ∙ length_put out₀ 0 z.text (omega (arith, z.counted, z.room_left))
 
-    -- where it goes no further the chunk is fed
-    pub sofar_all : at.more ≡ false → Fed state chunk buffer₀ out₀ (FedCase (record { number = at.number; held = at.held }) at.taken at.written) buffer out
-    sofar_all e =
-        let c : came_of state.number state.held buffer₀ (length out₀) chunk ≡ further at.taken z.text (nothing at.number at.held buffer) = z.came ∙ rw e in
+    -- up to the end of a piece
+    pub sofar_piece : (next : FedTo) (buffer' : List ℕ) → KeptFrom at chunk buffer next buffer' → Sofar state chunk buffer₀ out₀ next buffer' out
+    sofar_piece next buffer' kept' =
+        let k = length (piece_of (drop at.taken chunk)) in
+        rw (kept'.stands, kept'.keeps)
+        (record {
+          text = z.text;
+          counted = z.counted;
+          room_left = z.room_left;
+          far = omega (arith, z.far, piece_within (drop at.taken chunk), length-drop at.taken chunk);
+          wrote = z.wrote;
+          came =
+              z.came ∙ ap (further at.taken z.text) (came_piece (drop at.taken chunk) at.state.number at.state.held (length out₀ - at.written) buffer)
+              ∙ further_further at.taken k z.text [] _ ∙ rw (append-nil, drop-drop k at.taken chunk);
+        })
+
+    -- behind a line that was closed
+    pub sofar_closed : at.taken < length chunk → get_or chunk at.taken 0 ≡ 10 → room ≤ length out - at.written → (next : FedTo) (out' : List ℕ) → Closed at buffer out next out' → Sofar state chunk buffer₀ out₀ next buffer out'
+    sofar_closed h stops r next out' d =
+        let line = text_of at.state.number (held_answer buffer at.state.held) in
+        let left : length out₀ - at.written - length line ≡ length out₀ - (at.written + length line) = omega arith in
+        rw d.stands
+        (record {
+          text = z.text ++ line;
+          counted = length-append z.text line ∙ omega (arith, z.counted);
+          room_left = omega (arith, sofar_length, d.short, r);
+          far = omega arith;
+          wrote = d.wrote ∙ ap₂ (λ (o : List ℕ) (n : ℕ). put o n line) z.wrote (omega (arith, z.counted)) ∙ put_put out₀ 0 z.text line (omega (arith, z.counted, z.room_left));
+          came =
+              z.came ∙ ap (further at.taken z.text) (came_close chunk at.state.number at.state.held (length out₀ - at.written) buffer at.taken h stops (omega (arith, sofar_length, r)))
+              ∙ further_further at.taken 1 z.text line _ ∙ rw left;
+        })
+
+    fed_none : came_of at.state.number at.state.held buffer (length out₀ - at.written) (drop at.taken chunk) ≡ nothing at.state.number at.state.held buffer → Fed state chunk buffer₀ out₀ (Ok at) buffer out
+    fed_none e =
+        let c : came_of state.number state.held buffer₀ (length out₀) chunk ≡ further at.taken z.text (nothing at.state.number at.state.held buffer) = z.came ∙ ap (further at.taken z.text) e in
         let t : z.text ++ [] ≡ z.text = append-nil z.text in
         record {
-          said = sym (ap answer_for c ∙ ap₂ (FedCase (record { number = at.number; held = at.held })) (omega arith) (ap length t ∙ z.counted));
+          said = sym (ap answer_for c ∙ ap₂ (λ (k n : ℕ). Ok (record { state = at.state; taken = k; written = n })) (omega arith) (ap length t ∙ z.counted));
           keeps = sym (ap (λ (x : Came). x.buffer) c);
           wrote = z.wrote ∙ ap (put out₀ 0) (sym (ap (λ (x : Came). x.text) c ∙ t));
         }
 
-    module _ (m : at.more ≡ true) (held' count : ℕ) (buffer' : List ℕ) (took : Taken at.held (drop at.taken chunk) buffer held' count buffer') where
-      abbrev to : ℕ
-      to = at.taken + count
+    -- where the chunk ends
+    pub fed_end : length chunk ≤ at.taken → Fed state chunk buffer₀ out₀ (Ok at) buffer out
+    fed_end h = fed_none (came_end chunk at.state.number at.state.held (length out₀ - at.written) buffer at.taken h)
 
-      within : to ≤ length chunk
-      within = taken_to chunk at buffer z.far held' count buffer' took
+    -- where there is no room for a line
+    pub fed_full : at.taken < length chunk → get_or chunk at.taken 0 ≡ 10 → length out - at.written < room → Fed state chunk buffer₀ out₀ (Ok at) buffer out
+    fed_full h stops r = fed_none (came_stop chunk at.state.number at.state.held (length out₀ - at.written) buffer at.taken h stops (omega (arith, sofar_length, r)))
 
-      stops : to < length chunk → get_or chunk to 0 ≡ 10
-      stops h =
-          let k = length (piece_of (drop at.taken chunk)) in
-          let e : at.taken + k ≡ to = omega (arith, took.counted) in
-          rw (← e) (sym (get_or-drop at.taken chunk k 0) ∙ piece_stops (drop at.taken chunk) (omega (arith, took.counted, length-drop at.taken chunk)))
-
-      -- up to the end of a piece
-      sofar_piece : came_of state.number state.held buffer₀ (length out₀) chunk ≡ further to z.text (came_of at.number held' buffer' (length out₀ - at.written) (drop to chunk))
-      sofar_piece =
-          let c : came_of state.number state.held buffer₀ (length out₀) chunk ≡ further at.taken z.text (came_of at.number at.held buffer (length out₀ - at.written) (drop at.taken chunk)) = z.came ∙ rw m in
-          c
-          ∙ ap (further at.taken z.text) (came_piece (drop at.taken chunk) at.number at.held (length out₀ - at.written) buffer)
-          ∙ further_further at.taken (length (piece_of (drop at.taken chunk))) z.text [] _
-          ∙ rw (← took.holds, ← took.keeps, ← took.counted, append-nil, drop-drop count at.taken chunk)
-
-      -- where the chunk ends, or there is no room for a line
-      pub sofar_stopped : eqb to (length chunk) || ltb (length out - at.written) room ≡ true
-          → Sofar state chunk buffer₀ out₀ (record { number = at.number; held = held'; taken = to; written = at.written; more = false }) buffer' out
-      sofar_stopped t =
-          record {
-            text = z.text;
-            counted = z.counted;
-            room_left = z.room_left;
-            far = within;
-            wrote = z.wrote;
-            came =
-                sofar_piece ∙ ap (further to z.text)
-                (either (eqb to (length chunk))
-                (λ e. came_end chunk at.number held' (length out₀ - at.written) buffer' to (omega (arith, eqb-true to (length chunk) e)))
-                (λ e.
-                let h : to < length chunk = omega (arith, eqb-false to (length chunk) e, within) in
-                let r : length out - at.written < room = ltb-true (length out - at.written) room (sym (rw e) ∙ t) in
-                came_stop chunk at.number held' (length out₀ - at.written) buffer' to h (stops h) (omega (arith, sofar_length, r))));
-          }
-
-      pub sofar_closed : to < length chunk → room ≤ length out - at.written → (next : ℕ) (out' : List ℕ) → Closed at.number buffer' held' out at.written next out'
-          → Sofar state chunk buffer₀ out₀ (record { number = next_number at.number; held = 0; taken = to + 1; written = next; more = true }) buffer' out'
-      sofar_closed h r next out' d =
-          let line = text_of at.number (held_answer buffer' held') in
-          let left : length out₀ - at.written - length line ≡ length out₀ - next = omega (arith, d.behind) in
-          record {
-            text = z.text ++ line;
-            counted = length-append z.text line ∙ omega (arith, z.counted, d.behind);
-            room_left = omega (arith, sofar_length, d.behind, d.short);
-            far = omega arith;
-            wrote = d.wrote ∙ ap₂ (λ (o : List ℕ) (n : ℕ). put o n line) z.wrote (omega (arith, z.counted)) ∙ put_put out₀ 0 z.text line (omega (arith, z.counted, z.room_left));
-            came =
-                sofar_piece ∙ ap (further to z.text) (came_close chunk at.number held' (length out₀ - at.written) buffer' to h (stops h) (omega (arith, sofar_length, r)))
-                ∙ further_further to 1 z.text line _ ∙ rw left;
-          }
-
-or_none : (a b : Bool) → a || b ≡ false → (a ≡ false) × (b ≡ false)
-or_none false b e = (refl, e)
-or_none true b e = absurd (false≢true (sym e))
-
--- otherwise LF stands there, and there is room
-pub goes_on : (to end left : ℕ) → to ≤ end → eqb to end || ltb left room ≡ false → (to < end) × (room ≤ left)
-goes_on to end left h t = let both = or_none (eqb to end) (ltb left room) t in (omega (arith, eqb-false to end both.0), ltb-false left room both.1)
-
--- where 13 is not answered, the line buffer holds the longest line
-pub line_long : (buffer out : List ℕ) → too_small buffer out ≡ false → longest_line ≤ length buffer
-line_long buffer out t = ltb-false (length buffer) longest_line (or_none (ltb (length buffer) longest_line) (ltb (length out) room) t).0
-
--- at least so many passes are left
-abbrev pub left : List ℕ → Going → ℕ
-left chunk at = cond at.more (suc (length chunk - at.taken)) 0
-
-pub left_less : (chunk : List ℕ) (at next : Going) → at.more ≡ true → (next.more ≡ true → at.taken < next.taken) → next.taken ≤ length chunk → left chunk next < left chunk at
-left_less chunk at next m n h = rw m (by_test (λ (k : ℕ). k < suc (length chunk - at.taken)) next.more _ _ (λ e. omega (arith, n e)) (λ _. omega arith))
-
--- refused 13, or fed
-module _ (state : State) (chunk buffer out : List ℕ) where
-  pub refused_kept : too_small buffer out ≡ true → FedBy state chunk buffer out (Refused (record { reason = SmallBuffer; place = 0 })) buffer out
-  refused_kept t = rw t (record { said = refl; keeps = refl; wrote = refl })
-
-  pub fed_by : too_small buffer out ≡ false → (answer : Feeding) (buffer' out' : List ℕ) → Fed state chunk buffer out answer buffer' out' → FedBy state chunk buffer out answer buffer' out'
-  fed_by t answer buffer' out' f = rw t f
+-- where 13 is not answered, the chunk is fed
+pub fed_by : (state : State) (chunk buffer out : List ℕ) → too_small buffer out ≡ false → (answer : Result FedTo Refusal) (buffer' out' : List ℕ) → Fed state chunk buffer out answer buffer' out' → FedBy state chunk buffer out answer buffer' out'
+fed_by state chunk buffer out t answer buffer' out' f = rw t f
 
 -- one answer, and one state of the line buffer and of the output
-pub record Same (answer answer₁ : Feeding) (buffer buffer₁ out out₁ : List ℕ) : Type 0 where
+pub record Same (answer answer₁ : Result FedTo Refusal) (buffer buffer₁ out out₁ : List ℕ) : Type 0 where
   pub answers : answer ≡ answer₁
   pub buffers : buffer ≡ buffer₁
   pub outputs : out ≡ out₁
 
-pub fed_one : (state : State) (chunk buffer out : List ℕ) (answer answer₁ : Feeding) (b b₁ o o₁ : List ℕ) → FedBy state chunk buffer out answer b o → FedBy state chunk buffer out answer₁ b₁ o₁ → Same answer answer₁ b b₁ o o₁
+pub fed_one : (state : State) (chunk buffer out : List ℕ) (answer answer₁ : Result FedTo Refusal) (b b₁ o o₁ : List ℕ) → FedBy state chunk buffer out answer b o → FedBy state chunk buffer out answer₁ b₁ o₁ → Same answer answer₁ b b₁ o o₁
 fed_one state chunk buffer out answer answer₁ b b₁ o o₁ = go (too_small buffer out)
   where
     go : (t : Bool) → cond t (Kept buffer out answer b o) (Fed state chunk buffer out answer b o) → cond t (Kept buffer out answer₁ b₁ o₁) (Fed state chunk buffer out answer₁ b₁ o₁) → Same answer answer₁ b b₁ o o₁

@@ -1,15 +1,18 @@
 -- Laws of a line's end: one that is closed is written, and so is one that is open behind the last chunk. Assumes nothing.
 use Prim.Native.Nat.{ℕ, ◌+◌, ◌^◌, ◌≤◌, ◌<◌}
-use mathlib.Core.Path.{◌≡◌, ◌∙◌, sym, ap, subst}
+use mathlib.Core.Path.{◌≡◌, ◌∙◌, sym, ap, ap₂, subst}
 use mathlib.Core.Bool.{false}
 use mathlib.Core.List.{List, []}
 use native.Mathlib.Omega.{arith}
-use borrow.Author.Tests.{le-ltb, eq-eqb, ne_eqb}
+use borrow.Author.Tests.{le-ltb, eq-eqb}
 use lib.Dec.{eqb, ltb}
 use lib.ListN.{length}
-use Rattle.verdict.specs.declared.Verdict.{Verdict}
 use Rattle.verdict.specs.declared.Verdict.TheVariants.{Complete}
+use Rattle.std.specs.Prelude.{Result, Ok}
+use Rattle.verdict.specs.declared.Refusal.{Refusal}
+use Rattle.verdict.specs.Answers.{written}
 use Rattle.verdict.specs.Writing.{put, decided}
+use Rattle.verdict.proofs.Answering.{written_own}
 use Rattle.verdict.proofs.Cases.{by_test}
 use Rattle.verdict.proofs.Putting.{put_none}
 use Rattle.outcome.specs.declared.Kind.TheVariants.{Unknown}
@@ -20,22 +23,33 @@ use Rattle.text.specs.Writing.{room, WrittenLine}
 use Rattle.text.proofs.Decimals.{decimal_short}
 use Rattle.text.proofs.Lines.{length_text, line_left, line_written}
 use Rattle.report.specs.declared.feed.State.{State}
+use Rattle.report.specs.declared.feed.Fed.{Fed}
+use Rattle.report.specs.Line.{next_number}
 use Rattle.report.specs.Feeding.{held_answer, open_held, Finished}
-use Rattle.report.specs.Passing.{Closed, count_in}
+use Rattle.report.specs.Passing.{Closed}
 
 -- where any line has room, the line that is held is closed
-module _ (number : ℕ) (answer : FrameAnswer) (out : List ℕ) (place : ℕ) (verdict : Verdict) (out' : List ℕ) (h : place + room ≤ length out) (w : WrittenLine number answer out place verdict out') where
-  pub written_few : count_in verdict ≤ room
-  written_few = omega (arith, ap count_in (line_written number answer out place verdict out' h w), w.short)
+module _ (at : Fed) (answer : FrameAnswer) (out : List ℕ) (result : Result ℕ Refusal) (out' : List ℕ) (h : at.written + room ≤ length out) (w : WrittenLine at.state.number answer out at.written (written result) out') where
+  abbrev text : List ℕ
+  text = text_of at.state.number answer
 
-  pub line_closed : (buffer : List ℕ) (held : ℕ) → answer ≡ held_answer buffer held → (n : ℕ) → n ≡ count_in verdict → Closed number buffer held out place (place + n) out'
-  line_closed buffer held a n e =
-      let m : n ≡ length (text_of number answer) = e ∙ ap count_in (line_written number answer out place verdict out' h w) in
-      record {
-        short = subst (λ (x : FrameAnswer). length (text_of number x) ≤ room) a w.short;
-        behind = ap (λ (k : ℕ). place + k) m ∙ ap (λ (x : FrameAnswer). place + length (text_of number x)) a;
-        wrote = line_left number answer out place verdict out' h w ∙ ap (λ (x : FrameAnswer). put out place (text_of number x)) a;
-      }
+  pub line_counted : result ≡ Ok (length text)
+  line_counted = written_own result (Ok (length text)) (line_written at.state.number answer out at.written (written result) out' h w)
+
+  module _ (count : ℕ) (is : result ≡ Ok count) where
+    pub count_one : count ≡ length text
+    count_one = let s : Ok count ≡ Ok (length text) = sym is ∙ line_counted in cc
+
+    pub line_closed : (buffer : List ℕ) → answer ≡ held_answer buffer at.state.held → (number : ℕ) → number ≡ next_number at.state.number
+        → Closed at buffer out (record { state = record { number = number; held = 0 }; taken = at.taken + 1; written = at.written + count }) out'
+    line_closed buffer a number n =
+        record {
+          short = subst (λ (x : FrameAnswer). length (text_of at.state.number x) ≤ room) a w.short;
+          stands =
+              ap₂ (λ (next : ℕ) (more : ℕ). record { state = record { number = next; held = 0 }; taken = at.taken + 1; written = at.written + more }) n
+              (count_one ∙ ap (λ (x : FrameAnswer). length (text_of at.state.number x)) a);
+          wrote = line_left at.state.number answer out at.written (written result) out' h w ∙ ap (λ (x : FrameAnswer). put out at.written (text_of at.state.number x)) a;
+        }
 
 -- behind the last chunk: no line is open, or one that is written
 module _ (state : State) (out : List ℕ) where
@@ -45,9 +59,6 @@ module _ (state : State) (out : List ℕ) where
       let t = eq-eqb state.held 0 e in
       let z : ltb (length out) (0 + 0) ≡ false = le-ltb (length out) (0 + 0) (omega arith) in
       record { said = rw (t, z); left = rw (t, z) (sym (put_none out 0)) }
-
-  pub finished_open : (state.held ≡ 0 → ⊥) → (verdict : Verdict) (out' : List ℕ) → WrittenLine state.number (record { kind = Unknown; outcome = Open }) out 0 verdict out' → Finished state out verdict out'
-  finished_open n verdict out' w = let t = ne_eqb state.held 0 n in rw t w.written
 
 -- an open line's report line has room where any has
 pub open_short : (number held : ℕ) → number < 2 ^ 64 → length (open_held number held) ≤ room

@@ -6,12 +6,14 @@ use mathlib.Core.List.{List, [], ◌∷◌}
 use native.Mathlib.Omega.{arith}
 use lib.Dec.{eqb, ltb}
 use lib.ListN.{length}
+use Rattle.std.specs.Prelude.{Result}
+use Rattle.verdict.specs.declared.Refusal.{Refusal}
 use Rattle.verdict.proofs.Cases.{by_test}
 use Rattle.lines.specs.Taking.{kept, held_on}
 use Rattle.text.specs.Text.{text_of}
 use Rattle.text.specs.Writing.{room}
 use Rattle.report.specs.declared.feed.State.{State}
-use Rattle.report.specs.declared.feed.Feeding.{Feeding}
+use Rattle.report.specs.declared.feed.Fed.{Fed as FedTo}
 use Rattle.report.specs.Line.{next_number}
 use Rattle.report.specs.Feeding.{held_answer, Came, came_of, Fed, Kept, too_small, FedBy}
 use Rattle.report.specs.Passing.{taken_in}
@@ -27,7 +29,7 @@ came_within (c ∷ chunk) number held left buffer =
     (λ _. omega (arith, came_within chunk number (held_on held) left (kept buffer held c)))
 
 -- a call takes no more than there is
-pub fed_within : (state : State) (chunk buffer out : List ℕ) (answer : Feeding) (buffer' out' : List ℕ) → FedBy state chunk buffer out answer buffer' out' → taken_in answer ≤ length chunk
+pub fed_within : (state : State) (chunk buffer out : List ℕ) (answer : Result FedTo Refusal) (buffer' out' : List ℕ) → FedBy state chunk buffer out answer buffer' out' → taken_in answer ≤ length chunk
 fed_within state chunk buffer out answer buffer' out' = go (too_small buffer out)
   where
     go : (t : Bool) → cond t (Kept buffer out answer buffer' out') (Fed state chunk buffer out answer buffer' out') → taken_in answer ≤ length chunk

@@ -1,6 +1,7 @@
 -- What feeding a chunk of the input answers and leaves: character by character, the open line is held in a line buffer, and each closed line's text is written.
-use Rattle.std.specs.Prelude.{ℕ, suc, ◌-◌, ◌≡◌, Bool, ◌||◌, cond, List, [], ◌∷◌, ◌++◌, length, take, eqb, ltb}
+use Rattle.std.specs.Prelude.{ℕ, suc, ◌-◌, ◌≡◌, Bool, ◌||◌, cond, List, [], ◌∷◌, ◌++◌, length, take, eqb, ltb, Result, Ok, Err}
 use Rattle.verdict.specs.declared.Reason.TheVariants.{FrameLong, SmallBuffer}
+use Rattle.verdict.specs.declared.Refusal.{Refusal}
 use Rattle.verdict.specs.declared.Verdict.{Verdict}
 use Rattle.verdict.specs.Writing.{put}
 use Rattle.outcome.specs.declared.Kind.TheVariants.{Unknown}
@@ -11,8 +12,7 @@ use Rattle.lines.specs.Taking.{longest_line, kept, held_on}
 use Rattle.text.specs.Text.{text_of}
 use Rattle.text.specs.Writing.{room, WrittenText}
 use Rattle.report.specs.declared.feed.State.{State}
-use Rattle.report.specs.declared.feed.Feeding.{Feeding}
-use Rattle.report.specs.declared.feed.Feeding.TheVariants.{Fed as FedCase, Refused}
+use Rattle.report.specs.declared.feed.Fed.{Fed as FedTo}
 use Rattle.report.specs.Line.{line_answer, next_number}
 
 -- the answer to the line that is held
@@ -45,18 +45,18 @@ came_of number held buffer left (c ∷ chunk) =
     (behind [] (came_of number (held_on held) (kept buffer held c) left chunk))
 
 -- what is answered: the state, how much was taken, how much was written
-abbrev pub answer_for : Came → Feeding
-answer_for came = FedCase (record { number = came.number; held = came.held }) came.taken (length came.text)
+abbrev pub answer_for : Came → Result FedTo Refusal
+answer_for came = Ok (record { state = record { number = came.number; held = came.held }; taken = came.taken; written = length came.text })
 
 -- a chunk was fed: the answer, and the line buffer and the output at exit
-pub record Fed (state : State) (chunk buffer out : List ℕ) (answer : Feeding) (buffer' out' : List ℕ) : Type 0 where
+pub record Fed (state : State) (chunk buffer out : List ℕ) (answer : Result FedTo Refusal) (buffer' out' : List ℕ) : Type 0 where
   pub said : answer ≡ answer_for (came_of state.number state.held buffer (length out) chunk)
   pub keeps : buffer' ≡ (came_of state.number state.held buffer (length out) chunk).buffer
   pub wrote : out' ≡ put out 0 (came_of state.number state.held buffer (length out) chunk).text
 
 -- refused 13, and all is as it was
-pub record Kept (buffer out : List ℕ) (answer : Feeding) (buffer' out' : List ℕ) : Type 0 where
-  pub said : answer ≡ Refused (record { reason = SmallBuffer; place = 0 })
+pub record Kept (buffer out : List ℕ) (answer : Result FedTo Refusal) (buffer' out' : List ℕ) : Type 0 where
+  pub said : answer ≡ Err (record { reason = SmallBuffer; place = 0 })
   pub keeps : buffer' ≡ buffer
   pub wrote : out' ≡ out
 
@@ -65,7 +65,7 @@ abbrev pub too_small : List ℕ → List ℕ → Bool
 too_small buffer out = ltb (length buffer) longest_line || ltb (length out) room
 
 -- by whether it is refused
-abbrev pub FedBy : State → List ℕ → List ℕ → List ℕ → Feeding → List ℕ → List ℕ → Type 0
+abbrev pub FedBy : State → List ℕ → List ℕ → List ℕ → Result FedTo Refusal → List ℕ → List ℕ → Type 0
 FedBy state chunk buffer out answer buffer' out' = cond (too_small buffer out) (Kept buffer out answer buffer' out') (Fed state chunk buffer out answer buffer' out')
 
 -- the text of an open last line, if one is held

@@ -5,237 +5,182 @@
 // A star in place of the space states mapped deviations for Mode 1, a space IEEE ones.
 #![tactic(auto)]
 
-ghost use Rattle.std.specs.Prelude.{◌≤◌};
+ghost use Rattle.std.specs.Prelude.{◌≤◌, ◌<◌, IfSome};
 
 use std::io::{Read, Stdin, Stdout};
-use verdict::lesser;
-use word::bytes::byte_at;
 
 mod reads;
 mod say;
 mod scales;
 mod writes;
 
-// The value of a hexadecimal digit, 16 for any other character.
-fn digit(c: usize) -> usize
-    ensures { result ≤ 16 }
+// The value of a hexadecimal digit.
+fn digit(c: u8) -> Option<u8>
+    ensures { IfSome result (λ d. d < 16) }
 {
     match c {
-        48..=57 => c - 48,
-        65..=70 => c - 55,
-        _ => 16,
+        b'0'..=b'9' => Some(c - b'0'),
+        b'A'..=b'F' => Some(c - b'A' + 10),
+        _ => None,
     }
 }
 
-// The byte that the pair of digits at a place spells, 256 where there is none.
-fn pair_at(text: &[u8], place: usize) -> usize
+// The byte that the pair of digits at a place spells.
+fn pair_at(text: &[u8], place: usize) -> Option<u8>
     requires { place ≤ 200000 }
 {
-    let high = digit(byte_at(text, place));
-    let low = digit(byte_at(text, place + 1));
-    if (high > 15) | (low > 15) {
-        return 256;
-    }
-    high * 16 + low
+    let pair = text.get(place..place + 2)?;
+    Some(digit(pair[0])? * 16 + digit(pair[1])?)
 }
 
 // The bytes that a row's text spells behind its letter, up to what is no pair of digits: how many.
 fn decode(text: &[u8], out: &mut [u8; 65536]) -> usize
     ensures { result ≤ 65536 }
 {
-    let mut n = 0;
-    while n < 65536 {
-        let byte = pair_at(text, 2 + 2 * n);
-        if byte > 255 {
-            return n;
+    for (n, byte) in out.iter_mut().enumerate() {
+        match pair_at(text, 2 + 2 * n) {
+            Some(spelled) => *byte = spelled,
+            None => return n,
         }
-        out[n] = byte as u8;
-        n += 1;
     }
-    n
+    out.len()
 }
 
 // The decimal numbers behind a row's bytes, at most 16.
-#[derive(Clone, Copy, Drop)]
-pub(crate) struct Given {
-    pub count: usize,
-    pub values: [usize; 16],
+#[derive(Drop)]
+struct Given {
+    count: usize,
+    values: [usize; 16],
+    ghost within: { count ≤ 16 },
 }
 
-// A character more: a space begins the next number; a number is held where ten digits end.
-fn further(given: Given, c: u8) -> Given
-    requires { given.count ≤ 16 }
-    ensures { result.count ≤ 16 }
-{
-    let count = given.count;
-    let mut values = given.values;
-    if c == 32 {
-        return Given {
-            count: lesser(count + 1, 16),
-            values,
+impl Given {
+    // The numbers in a text: a space begins the next one, which is held where ten digits end.
+    fn new(text: &[u8]) -> Given {
+        let mut given = Given {
+            count: 0,
+            values: [0; 16],
         };
+        for c in text {
+            given.take(*c);
+        }
+        given
     }
-    if count > 0 {
-        let value = values[count - 1] % 1000000000;
-        values[count - 1] = value * 10 + (c % 16) as usize;
-    }
-    Given { count, values }
-}
 
-// The numbers from a place on.
-fn given_in(text: &[u8], from: usize) -> Given {
-    let mut given = Given {
-        count: 0,
-        values: [0; 16],
-    };
-    let mut i = from;
-    while i < text.len() {
-        given = further(given, text[i]);
-        i += 1;
+    // A character more.
+    fn take(&mut self, c: u8) {
+        if c == b' ' {
+            self.count = (self.count + 1).min(16);
+        } else if self.count > 0 {
+            let value = &mut self.values[self.count - 1];
+            *value = *value % 1000000000 * 10 + usize::from(c % 16);
+        }
     }
-    given
+
+    fn numbers(&self) -> &[usize] {
+        &self.values[..self.count]
+    }
 }
 
 // How many bytes of 0 stand behind those that the text spells.
-fn zeros(kind: usize, given: Given) -> usize
+fn zeros(kind: u8, given: &Given) -> usize
     ensures { result ≤ 65536 }
 {
-    let values = given.values;
-    if (kind == 65) | (kind == 80) {
-        return lesser(values[0], 65536);
+    match kind {
+        b'A' | b'P' => given.values[0].min(65536),
+        _ => 0,
     }
-    0
 }
 
 // What a row of this kind gives under a stated format; its text is said before.
-fn say_row(to: Stdout, kind: usize, format: usize, bytes: &[u8], given: Given) {
+fn say_row(to: Stdout, kind: u8, format: usize, bytes: &[u8], given: &Given) {
     match kind {
-        65 => reads::address_row(to, bytes, given),
-        67 => scales::pack_row(to, format, bytes),
-        69 => reads::expand_row(to, format, bytes, given),
-        75 => scales::words_row(to, bytes, given),
-        80 => reads::frame_row(to, bytes),
-        85 => reads::unpack_row(to, format, bytes, given),
-        87 => writes::matrix_row(to, format, bytes),
-        88 => writes::array_row(to, bytes),
+        b'A' => reads::address_row(to, bytes, given),
+        b'C' => scales::pack_row(to, format, bytes),
+        b'E' => reads::expand_row(to, format, bytes, given),
+        b'K' => scales::words_row(to, bytes, given),
+        b'P' => reads::frame_row(to, bytes),
+        b'U' => reads::unpack_row(to, format, bytes, given),
+        b'W' => writes::matrix_row(to, format, bytes),
+        b'X' => writes::array_row(to, bytes),
         _ => say::say_answer(to, reads::verdict_on(kind, format, bytes)),
     }
 }
 
 // The text of a row is said too, but not of what is written again.
-fn texted_row(to: Stdout, kind: usize, format: usize, text: &[u8], bytes: &[u8], given: Given) {
-    if kind > 90 {
+fn texted_row(to: Stdout, kind: u8, format: usize, text: &[u8], bytes: &[u8], given: &Given) {
+    if kind > b'Z' {
         reads::beginnings(to, kind, format, bytes);
     }
     say::write(to, text);
-    say::put(to, 32);
+    say::put(to, b' ');
     say_row(to, kind, format, bytes, given);
-    say::put(to, 10);
-}
-
-// The format that a row states: 1 for a star, else 0.
-fn format_in(text: &[u8]) -> usize {
-    if byte_at(text, 1) == 42 {
-        return 1;
-    }
-    0
+    say::put(to, b'\n');
 }
 
 // A pack that is written again: its letter, with its star.
-fn say_letter(to: Stdout, kind: u8, format: usize) {
+fn written_row(to: Stdout, kind: u8, format: usize, bytes: &[u8]) {
     say::put(to, kind);
     if format == 1 {
-        say::put(to, 42);
+        say::put(to, b'*');
     }
+    writes::again_row(to, kind, format, bytes);
 }
 
-// A row whose text spells so many bytes; those behind them are 0.
-fn row_of(to: Stdout, text: &[u8], bytes: &[u8; 65536], n: usize)
-    requires { n ≤ 65536 }
-{
-    let all = &bytes[..];
-    let kind = byte_at(text, 0);
-    let format = format_in(text);
-    if kind == 81 {
-        say_letter(to, 81, format);
-        writes::again_row(to, kind, format, &all[0..n]);
-        return;
-    }
-    if kind == 82 {
-        say_letter(to, 82, format);
-        writes::again_row(to, kind, format, &all[0..n]);
-        return;
-    }
-    let given = given_in(text, 2 + 2 * n);
-    let end = lesser(n + zeros(kind, given), 65536);
-    texted_row(to, kind, format, text, &all[0..end], given);
-}
-
-// A row: its letter, a space or a star, its bytes, its numbers.
+// A row: its letter, a space or a star (the format that it states, 1), its bytes, its numbers.
 fn row(to: Stdout, text: &[u8]) {
     let mut bytes = [0u8; 65536];
     let n = decode(text, &mut bytes);
-    row_of(to, text, &bytes, n);
+    let kind = text.first().copied().unwrap_or(0);
+    let format = usize::from(text.get(1) == Some(&b'*'));
+    if kind == b'Q' || kind == b'R' {
+        written_row(to, kind, format, &bytes[..n]);
+        return;
+    }
+    let given = Given::new(text.get(2 + 2 * n..).unwrap_or(&[]));
+    let end = (n + zeros(kind, &given)).min(65536);
+    texted_row(to, kind, format, text, &bytes[..end], &given);
 }
 
-// A line of so many characters.
-fn line_row(to: Stdout, text: &[u8; 131072], n: usize)
-    requires { n ≤ 131072 }
-{
-    let all = &text[..];
-    row(to, &all[0..n]);
-}
-
-// The next character of the input, 256 at its end.
-fn next_character(mut from: Stdin) -> usize
-    ensures { result ≤ 256 }
-{
+// The next character of the input.
+fn next_character(mut from: Stdin) -> Option<u8> {
     let mut one = [0u8; 1];
-    let got = from.read(&mut one).unwrap_or(0);
-    if got == 0 {
-        return 256;
+    match from.read(&mut one) {
+        Ok(1) => Some(one[0]),
+        _ => None,
     }
-    byte_at(&one, 0)
 }
 
-// The characters of the next line: how many; 131,072 where the input ends before the line does.
-fn next_line(from: Stdin, text: &mut [u8; 131072]) -> usize
-    ensures { result ≤ 131072 }
+// The characters of the next line: how many; none where the input ends before the line does.
+fn next_line(from: Stdin, text: &mut [u8; 131072]) -> Option<usize>
+    ensures { IfSome result (λ n. n < 131072) }
 {
-    let mut n = 0;
-    while n < 131072 {
-        let c = next_character(from);
-        if c == 10 {
-            return n;
+    for (n, place) in text.iter_mut().enumerate() {
+        match next_character(from)? {
+            b'\n' => return Some(n),
+            c => *place = c,
         }
-        if c > 255 {
-            return 131072;
-        }
-        text[n] = c as u8;
-        n += 1;
     }
-    n
+    None
 }
 
 // One line: whether there was one.
 fn take_row(from: Stdin, to: Stdout) -> bool {
     let mut text = [0u8; 131072];
-    let n = next_line(from, &mut text);
-    if n == 131072 {
+    let Some(n) = next_line(from, &mut text) else {
         return false;
-    }
+    };
     if n > 1 {
-        line_row(to, &text, n);
+        row(to, &text[..n]);
     }
     true
 }
 
 // Reads to the end of the input; the count of turns is more than any input takes.
 fn main(rt: HostRuntime) {
-    let mut more = true;
-    let mut turns = u64::MAX;
-    while turns > 0 && more {
-        more = take_row(rt.stdin(), rt.stdout());
-        turns -= 1;
+    for _ in 0..u64::MAX {
+        if !take_row(rt.stdin(), rt.stdout()) {
+            return;
+        }
     }
 }

@@ -1,6 +1,6 @@
 // What is said of an answer and of lent lists, and whether all entries but those filled are as they were.
+use std::fmt::Display;
 use std::io::Stdout;
-use word::bytes::byte_at;
 
 // What every entry holds before a call.
 pub(crate) const CANARY: u64 = 0xA5A5A5A5A5A5A5A5;
@@ -18,39 +18,19 @@ pub(crate) fn write(to: Stdout, text: &[u8]) {
 }
 
 // A number's decimal digits.
-fn say_decimal(to: Stdout, number: u64) {
+fn say_decimal<T: Display + Drop>(to: Stdout, number: T) {
     let _ = to.print(number);
 }
 
 // One character.
 pub(crate) fn put(to: Stdout, c: u8) {
-    let one = [c];
-    write(to, &one);
+    write(to, &[c]);
 }
 
 // A number behind a space.
-pub(crate) fn say_next(to: Stdout, number: u64) {
-    put(to, 32);
+pub(crate) fn say_next<T: Display + Drop>(to: Stdout, number: T) {
+    put(to, b' ');
     say_decimal(to, number);
-}
-
-// What a list's entries are: deviations, coefficients, words, marks; nothing of bytes that were written.
-fn say_name(to: Stdout, name: u8) {
-    match name {
-        68 => {
-            write(to, b" deviations");
-        }
-        67 => {
-            write(to, b" coefficients");
-        }
-        87 => {
-            write(to, b" words");
-        }
-        77 => {
-            write(to, b" marks");
-        }
-        _ => {}
-    }
 }
 
 // A number behind a text.
@@ -75,57 +55,28 @@ pub(crate) fn say_answer(to: Stdout, answer: u64) {
 }
 
 // A list's entries behind their name.
-pub(crate) fn say_words(to: Stdout, name: u8, list: &[u64]) {
-    say_name(to, name);
-    let mut i = 0;
-    while i < list.len() {
-        say_next(to, list[i]);
-        i += 1;
-    }
-}
-
-pub(crate) fn say_bytes(to: Stdout, name: u8, list: &[u8]) {
-    say_name(to, name);
-    let mut i = 0;
-    while i < list.len() {
-        say_next(to, byte_at(list, i) as u64);
-        i += 1;
+pub(crate) fn say_list<T: Display + Copy>(to: Stdout, name: &[u8], list: &[T]) {
+    write(to, name);
+    for entry in list {
+        say_next(to, *entry);
     }
 }
 
 // An answer behind how many bytes it is on.
 pub(crate) fn say_begun(to: Stdout, count: usize, answer: u64) {
-    say_decimal(to, count as u64);
-    put(to, 32);
+    say_decimal(to, count);
+    put(to, b' ');
     say_answer(to, answer);
-    put(to, 10);
+    put(to, b'\n');
 }
 
-// Whether the first entry, and those behind so many, are as they were.
-pub(crate) fn kept_words(list: &[u64], count: usize) -> bool {
-    let mut kept = true;
-    let mut i = 0;
-    while i < list.len() {
-        kept = kept & ((list[i] == CANARY) | ((0 < i) & (i <= count)));
-        i += 1;
-    }
-    kept
-}
-
-pub(crate) fn kept_bytes(list: &[u8], count: usize) -> bool {
-    let mut kept = true;
-    let mut i = 0;
-    while i < list.len() {
-        kept = kept & ((list[i] == CANARY_BYTE) | ((0 < i) & (i <= count)));
-        i += 1;
-    }
-    kept
+// Whether the first entry, and those behind so many, hold what each held before.
+pub(crate) fn kept<T: PartialEq + Copy>(list: &[T], before: T, count: usize) -> bool {
+    list.iter()
+        .enumerate()
+        .all(|(i, entry)| *entry == before || (0 < i && i <= count))
 }
 
 pub(crate) fn say_kept(to: Stdout, kept: bool) {
-    if kept {
-        write(to, b" kept");
-        return;
-    }
-    write(to, b" lost");
+    write(to, if kept { b" kept" } else { b" lost" });
 }

@@ -2,59 +2,19 @@
 ghost use Rattle.std.specs.Prelude.{◌≤◌};
 
 use crate::Given;
-use crate::reads::{filled, pairs_of};
-use crate::say::{UNFINISHED, say, say_answer, say_kept, say_next, write};
+use crate::reads::Filled;
+use crate::say::{UNFINISHED, kept, say, say_answer, say_kept, say_list};
 use crate::writes::words_in;
 use std::io::Stdout;
-use verdict::lesser;
 
 // What every entry holds before a call: no word scales to it.
 const CANARY: i64 = 0x7FFFFFFFFFFFFFFF;
 
-// A value without its sign.
-fn size_of(value: i64) -> u64 {
-    if value >= 0 {
-        return value as u64;
-    }
-    ((-1 - value) as u64) + 1
-}
-
-fn say_value(to: Stdout, value: i64) {
-    let size = size_of(value);
-    if value < 0 {
-        say(to, b" -", size);
-        return;
-    }
-    say_next(to, size);
-}
-
-// A list's entries.
-fn say_values(to: Stdout, list: &[i64]) {
-    write(to, b" scaled");
-    let mut i = 0;
-    while i < list.len() {
-        say_value(to, list[i]);
-        i += 1;
-    }
-}
-
-// Whether the first entry, and those behind so many, are as they were.
-fn kept_values(list: &[i64], count: usize) -> bool {
-    let mut kept = true;
-    let mut i = 0;
-    while i < list.len() {
-        kept = kept & ((list[i] == CANARY) | ((0 < i) & (i <= count)));
-        i += 1;
-    }
-    kept
-}
-
 // The unit of a length: what the word 0 is below nought.
 fn say_unit(to: Stdout, length: usize) {
-    let least = [0u64];
     let mut unit = [0i64];
-    cwords::matrix_scale(&least, length, &mut unit);
-    say(to, b" of ", size_of(unit[0]));
+    cwords::matrix_scale(&[0u64], length, &mut unit);
+    say(to, b" of ", unit[0].unsigned_abs());
 }
 
 // The coefficients of a whole pack.
@@ -71,10 +31,10 @@ pub(crate) fn pack_row(to: Stdout, format: usize, bytes: &[u8]) {
         &mut coefficients,
         &mut marks,
     );
-    let m = pairs_of(filled(to, answer, bytes));
+    let m = Filled::new(to, answer, bytes).pairs();
     cmatrix::matrix_fields(bytes, format, &mut fields);
-    cwords::matrix_scale(&coefficients[0..m], fields[3], &mut scaled);
-    say_values(to, &scaled[0..m]);
+    cwords::matrix_scale(&coefficients[..m], fields[3], &mut scaled);
+    say_list(to, b" scaled", &scaled[..m]);
     say_unit(to, fields[3]);
 }
 
@@ -82,23 +42,21 @@ pub(crate) fn pack_row(to: Stdout, format: usize, bytes: &[u8]) {
 fn say_scaled(to: Stdout, answer: u64, list: &[i64; 72], count: usize)
     requires { count ≤ 64 }
 {
-    let all = &list[..];
     say_answer(to, answer);
     if answer < UNFINISHED {
-        say_values(to, &all[1..1 + count]);
-        say_kept(to, kept_values(all, count));
+        say_list(to, b" scaled", &list[1..1 + count]);
+        say_kept(to, kept(list, CANARY, count));
         return;
     }
-    say_kept(to, kept_values(all, 0));
+    say_kept(to, kept(list, CANARY, 0));
 }
 
 // Words in eight bytes each, by the length and the room that the row gives.
-pub(crate) fn words_row(to: Stdout, bytes: &[u8], given: Given) {
+pub(crate) fn words_row(to: Stdout, bytes: &[u8], given: &Given) {
     let mut scaled = [CANARY; 72];
-    let values = given.values;
     let words = words_in(bytes, 0);
-    let count = lesser(bytes.len() / 8, 64);
-    let room = lesser(values[1], 70);
-    let answer = cwords::matrix_scale(&words[0..count], values[0], &mut scaled[1..1 + room]);
+    let count = (bytes.len() / 8).min(64);
+    let room = given.values[1].min(70);
+    let answer = cwords::matrix_scale(&words[..count], given.values[0], &mut scaled[1..1 + room]);
     say_scaled(to, answer, &scaled, count);
 }

@@ -1,48 +1,29 @@
 // Rows of the writers: a pack that is read is written again, or what is written stands in the row's bytes. The buffer is lent from the middle of a longer one.
 ghost use Rattle.std.specs.Prelude.{◌≤◌};
 
-use crate::say::{
-    CANARY_BYTE, UNFINISHED, kept_bytes, say_answer, say_bytes, say_kept, say_next, write,
-};
+use crate::say::{CANARY_BYTE, UNFINISHED, kept, say_answer, say_kept, say_list, say_next, write};
+use std::array;
 use std::io::Stdout;
-use verdict::lesser;
-use word::bytes::{Read, byte_at, read_at};
+use word::bytes::{byte_at, read_at};
 
 // The answer 13.
 const SMALL: u64 = 0x2_000D_0000;
 
-// Whether bytes stand in a buffer behind its first.
-fn stands(out: &[u8], bytes: &[u8]) -> bool {
-    if out.len() <= bytes.len() {
-        return false;
-    }
-    let mut same = true;
-    let mut i = 0;
-    while i < bytes.len() {
-        same = same & (out[1 + i] == bytes[i]);
-        i += 1;
-    }
-    same
-}
-
 // Whether an answer and what it left are right: the pack where there is room for it, else 13 and nothing.
-fn right(answer: u64, buffer: &[u8; 33024], bytes: &[u8], room: usize) -> bool {
-    let out = &buffer[..];
-    if room < bytes.len() {
-        return (answer == SMALL) & kept_bytes(out, 0);
+fn right(answer: u64, out: &[u8; 33024], bytes: &[u8], room: usize) -> bool {
+    let count = bytes.len();
+    if room < count {
+        return (answer == SMALL) & kept(out, CANARY_BYTE, 0);
     }
-    (answer == bytes.len() as u64) & (stands(out, bytes) & kept_bytes(out, bytes.len()))
+    (answer == count as u64) & out[1..].starts_with(bytes) & kept(out, CANARY_BYTE, count)
 }
 
-// Whether a matrix pack, read and unpacked, is written as it was.
-fn matrix_again(format: usize, bytes: &[u8], room: usize) -> bool
-    requires { room ≤ 33000 }
-{
+// A matrix pack, read and unpacked, is written again.
+fn matrix_again(format: usize, bytes: &[u8], out: &mut [u8]) -> u64 {
     let mut fields = [0usize; 7];
     let mut deviations = [0u64; 64];
     let mut coefficients = [0u64; 2016];
     let mut marks = [0u8; 2016];
-    let mut out = [CANARY_BYTE; 33024];
     cmatrix::matrix_fields(bytes, format, &mut fields);
     cmatrix::matrix_unpack(
         bytes,
@@ -51,118 +32,75 @@ fn matrix_again(format: usize, bytes: &[u8], room: usize) -> bool
         &mut coefficients,
         &mut marks,
     );
-    let answer = cmatrix::matrix_write(
-        &fields,
-        format,
-        &deviations,
-        &coefficients,
-        &marks,
-        &mut out[1..1 + room],
-    );
-    right(answer, &out, bytes, room)
+    cmatrix::matrix_write(&fields, format, &deviations, &coefficients, &marks, out)
 }
 
-// Whether an array pack, read, is written as it was.
-fn array_again(bytes: &[u8], room: usize) -> bool
-    requires { room ≤ 33000 }
-{
+// An array pack, read, is written again.
+fn array_again(bytes: &[u8], out: &mut [u8]) -> u64 {
     let mut fields = [0usize; 11];
-    let mut out = [CANARY_BYTE; 33024];
     carray::array_fields(bytes, &mut fields);
-    let dims = lesser(fields[0], 8);
-    let element = fields[9];
-    let start = lesser(fields[10], bytes.len());
-    let answer = carray::array_write(
-        &fields[1..1 + dims],
-        element,
-        &bytes[start..],
-        &mut out[1..1 + room],
-    );
-    right(answer, &out, bytes, room)
+    let dims = fields[0].min(8);
+    let start = fields[10].min(bytes.len());
+    carray::array_write(&fields[1..1 + dims], fields[9], &bytes[start..], out)
 }
 
-fn again(kind: usize, format: usize, bytes: &[u8], room: usize) -> bool
+// Whether a pack is written as it was into so much room.
+fn again(kind: u8, format: usize, bytes: &[u8], room: usize) -> bool
     requires { room ≤ 33000 }
 {
-    if kind == 82 {
-        return matrix_again(format, bytes, room);
-    }
-    array_again(bytes, room)
+    let mut buffer = [CANARY_BYTE; 33024];
+    let out = &mut buffer[1..1 + room];
+    let answer = match kind {
+        b'R' => matrix_again(format, bytes, out),
+        _ => array_again(bytes, out),
+    };
+    right(answer, &buffer, bytes, room)
 }
 
 // Whether a pack of 1 to 32,900 bytes is written as it was into room that is exact, one byte short and longer.
-fn same(kind: usize, format: usize, bytes: &[u8]) -> bool {
+fn same(kind: u8, format: usize, bytes: &[u8]) -> bool {
     let count = bytes.len();
-    if count == 0 {
-        return false;
-    }
-    if count > 32900 {
-        return false;
-    }
-    again(kind, format, bytes, count)
-        & (again(kind, format, bytes, count - 1) & again(kind, format, bytes, count + 9))
-}
-
-fn say_same(to: Stdout, same: bool) {
-    if same {
-        write(to, b" same\n");
-        return;
-    }
-    write(to, b" differs\n");
+    (1..=32900).contains(&count)
+        && [count, count - 1, count + 9]
+            .iter()
+            .all(|room| again(kind, format, bytes, *room))
 }
 
 // The bytes are not said again.
-pub(crate) fn again_row(to: Stdout, kind: usize, format: usize, bytes: &[u8]) {
-    say_next(to, bytes.len() as u64);
-    say_same(to, same(kind, format, bytes));
+pub(crate) fn again_row(to: Stdout, kind: u8, format: usize, bytes: &[u8]) {
+    say_next(to, bytes.len());
+    write(
+        to,
+        if same(kind, format, bytes) {
+            b" same\n"
+        } else {
+            b" differs\n"
+        },
+    );
 }
 
 // The answer, the first bytes written, and whether all others are as they were.
-fn say_written(to: Stdout, answer: u64, buffer: &[u8; 33024]) {
-    let out = &buffer[..];
+fn say_written(to: Stdout, answer: u64, out: &[u8; 33024]) {
     say_answer(to, answer);
     if answer < UNFINISHED {
-        let count = lesser(answer as usize, 33023);
-        say_bytes(to, 0, &out[1..1 + lesser(count, 64)]);
-        say_kept(to, kept_bytes(out, count));
+        let count = (answer as usize).min(33023);
+        say_list(to, b"", &out[1..1 + count.min(64)]);
+        say_kept(to, kept(out, CANARY_BYTE, count));
         return;
     }
-    say_kept(to, kept_bytes(out, 0));
+    say_kept(to, kept(out, CANARY_BYTE, 0));
 }
 
 // The number in eight bytes at a place, 0 where they are not there.
 fn number_at(bytes: &[u8], place: usize) -> u64 {
-    let read = read_at(bytes, place, 8);
-    match read {
-        Read::Word(word) => word,
-        Read::Unfinished(_) => 0,
-        Read::Refused(_) => 0,
-    }
+    read_at(bytes, place, 8).unwrap_or(0)
 }
 
 // Sixty-four numbers from a place on.
 pub(crate) fn words_in(bytes: &[u8], from: usize) -> [u64; 64]
     requires { from ≤ 1000 }
 {
-    let mut list = [0u64; 64];
-    let mut i = 0;
-    while i < 64 {
-        list[i] = number_at(bytes, from + 8 * i);
-        i += 1;
-    }
-    list
-}
-
-fn fields_in(bytes: &[u8]) -> [usize; 7] {
-    [
-        byte_at(bytes, 0),
-        byte_at(bytes, 1),
-        byte_at(bytes, 2),
-        byte_at(bytes, 3),
-        byte_at(bytes, 4),
-        byte_at(bytes, 5),
-        byte_at(bytes, 6),
-    ]
+    array::from_fn(|i| number_at(bytes, from + 8 * i))
 }
 
 // So many deviations and coefficients stand in the bytes, before the marks.
@@ -170,15 +108,15 @@ fn matrix_of(to: Stdout, format: usize, bytes: &[u8], d: usize, c: usize, marks:
     requires { (d ≤ 64) × (c ≤ 64) }
 {
     let mut out = [CANARY_BYTE; 33024];
-    let fields = fields_in(bytes);
+    let fields: [usize; 7] = array::from_fn(|i| byte_at(bytes, i));
     let deviations = words_in(bytes, 11);
     let coefficients = words_in(bytes, 11 + 8 * d);
     let room = byte_at(bytes, 7);
     let answer = cmatrix::matrix_write(
         &fields,
         format,
-        &deviations[0..d],
-        &coefficients[0..c],
+        &deviations[..d],
+        &coefficients[..c],
         marks,
         &mut out[1..1 + room],
     );
@@ -187,25 +125,18 @@ fn matrix_of(to: Stdout, format: usize, bytes: &[u8], d: usize, c: usize, marks:
 
 // A byte each: N, Cs, Cf, Clen, Sf, Slen, the mode, the room, how many deviations, coefficients and marks; then these, a mark being a byte.
 pub(crate) fn matrix_row(to: Stdout, format: usize, bytes: &[u8]) {
-    let d = lesser(byte_at(bytes, 8), 64);
-    let c = lesser(byte_at(bytes, 9), 64);
+    let d = byte_at(bytes, 8).min(64);
+    let c = byte_at(bytes, 9).min(64);
     let behind = 11 + 8 * (d + c);
     let end = behind + byte_at(bytes, 10);
-    if bytes.len() < end {
-        return;
+    if end <= bytes.len() {
+        matrix_of(to, format, bytes, d, c, &bytes[behind..end]);
     }
-    matrix_of(to, format, bytes, d, c, &bytes[behind..end]);
 }
 
 // The numbers behind the first byte.
 fn numbers_in(bytes: &[u8]) -> [usize; 12] {
-    let mut list = [0usize; 12];
-    let mut i = 0;
-    while i < 12 {
-        list[i] = number_at(bytes, 1 + 8 * i) as usize;
-        i += 1;
-    }
-    list
+    array::from_fn(|i| number_at(bytes, 1 + 8 * i) as usize)
 }
 
 // A byte for how many sizes; then in eight bytes each these, E, the length of the array (its bytes are 7) and the room.
@@ -213,14 +144,13 @@ pub(crate) fn array_row(to: Stdout, bytes: &[u8]) {
     let array = [7u8; 33024];
     let mut out = [CANARY_BYTE; 33024];
     let list = numbers_in(bytes);
-    let dims = lesser(byte_at(bytes, 0), 9);
-    let element = list[dims];
-    let count = lesser(list[dims + 1], 33000);
-    let room = lesser(list[dims + 2], 33000);
+    let dims = byte_at(bytes, 0).min(9);
+    let count = list[dims + 1].min(33000);
+    let room = list[dims + 2].min(33000);
     let answer = carray::array_write(
-        &list[0..dims],
-        element,
-        &array[0..count],
+        &list[..dims],
+        list[dims],
+        &array[..count],
         &mut out[1..1 + room],
     );
     say_written(to, answer, &out);

@@ -5,11 +5,10 @@ use mathlib.Core.Bool.{Bool, true, false, ◌||◌, cond}
 use mathlib.Core.List.{[], ◌∷◌}
 use lib.Dec.{eqb, ltb}
 use lib.IntN.{sub_ℕ}
+use Rattle.std.specs.Prelude.{Ok, Err}
 use Rattle.verdict.specs.declared.Reason.TheVariants.{ValueLength, ValueRange}
 use Rattle.verdict.specs.Stated.{gives, refuses}
 use Rattle.rule.specs.declared.rules.Rule.{Rule}
-use Rattle.rule.specs.declared.rules.Ruled.TheVariants.{By, Refused}
-use Rattle.rule.specs.declared.scaled.Scaled.TheVariants.{Value, Refused as ScaledRefused}
 use Rattle.rule.specs.Rules.{allowed, ruled_by}
 use Rattle.rule.specs.Scaled.{nought_of, scaled_of}
 use Rattle.rule.specs.Stated.{stated_ruled, parts, stated_scaled}
@@ -18,7 +17,7 @@ use Rattle.rule.specs.Stated.{stated_ruled, parts, stated_scaled}
 pub ruled_states : (mapped : Bool) (n : ℕ) (rule : Rule) → stated_ruled (ruled_by mapped n rule) ≡ cond (allowed mapped n) (gives (rule.length ∷ rule.sign ∷ rule.greatest ∷ [])) (refuses 6 0)
 ruled_states mapped n rule = by (allowed mapped n)
   where
-    by : (t : Bool) → stated_ruled (cond t (By rule) (Refused (record { reason = ValueLength; place = 0 }))) ≡ cond t (gives (rule.length ∷ rule.sign ∷ rule.greatest ∷ [])) (refuses 6 0)
+    by : (t : Bool) → stated_ruled (cond t (Ok rule) (Err (record { reason = ValueLength; place = 0 }))) ≡ cond t (gives (rule.length ∷ rule.sign ∷ rule.greatest ∷ [])) (refuses 6 0)
     by true = refl
     by false = refl
 
@@ -27,7 +26,7 @@ pub scaled_states : (word n : ℕ) → stated_scaled (scaled_of word n) ≡ cond
 scaled_states word n = by (eqb n 0 || ltb 8 n) (ltb (256 ^ n / 2) word)
   where
     by : (length range : Bool)
-        → stated_scaled (cond length (ScaledRefused (record { reason = ValueLength; place = 0 })) (cond range (ScaledRefused (record { reason = ValueRange; place = 0 })) (Value (sub_ℕ word (nought_of n)))))
+        → stated_scaled (cond length (Err (record { reason = ValueLength; place = 0 })) (cond range (Err (record { reason = ValueRange; place = 0 })) (Ok (sub_ℕ word (nought_of n)))))
         ≡ cond length (refuses 6 0) (cond range (refuses 11 0) (gives (parts (sub_ℕ word (nought_of n)))))
     by true range = refl
     by false true = refl

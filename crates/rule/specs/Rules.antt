@@ -1,10 +1,9 @@
 -- The value rules of document 01, on words of any length, and the first byte that makes a broken rule certain.
-use Rattle.std.specs.Prelude.{ℕ, suc, ◌-◌, ◌*◌, ◌/◌, ◌^◌, ◌≤◌, ◌<◌, Bool, ◌||◌, cond, List, length, take, leb, eqb}
+use Rattle.std.specs.Prelude.{ℕ, suc, ◌-◌, ◌*◌, ◌/◌, ◌^◌, ◌≤◌, ◌<◌, Bool, ◌||◌, cond, List, Result, Ok, Err, length, take, leb, eqb}
 use Rattle.verdict.specs.declared.Reason.TheVariants.{ValueLength}
+use Rattle.verdict.specs.declared.Refusal.{Refusal}
 use Rattle.rule.specs.declared.rules.Rule.{Rule}
 use Rattle.rule.specs.declared.rules.Form.{Form}
-use Rattle.rule.specs.declared.rules.Ruled.{Ruled}
-use Rattle.rule.specs.declared.rules.Ruled.TheVariants.{By, Refused}
 use Rattle.word.specs.Digits.{value_of}
 
 -- a word with its sign cleared, where it is set; a sign of 0 is none
@@ -75,5 +74,5 @@ abbrev pub rule_of : Form → Rule
 rule_of form = cond form.coefficients (rule_of_coefficients form.mapped form.length) (rule_of_deviations form.mapped form.length)
 
 -- the rule where the format allows the length, else refused 6
-abbrev pub ruled_by : Bool → ℕ → Rule → Ruled
-ruled_by mapped n rule = cond (allowed mapped n) (By rule) (Refused (record { reason = ValueLength; place = 0 }))
+abbrev pub ruled_by : Bool → ℕ → Rule → Result Rule Refusal
+ruled_by mapped n rule = cond (allowed mapped n) (Ok rule) (Err (record { reason = ValueLength; place = 0 }))

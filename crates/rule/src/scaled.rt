@@ -4,12 +4,6 @@ ghost use Rattle.rule.specs.Scaled.{scaled_of};
 
 use verdict::{Reason, Refusal};
 
-#[derive(Drop)]
-pub enum Scaled {
-    Value(i64),
-    Refused(Refusal),
-}
-
 // The nought of mapped words of a length, which is their unit too.
 fn nought(length: usize) -> u64
     requires { (1 ≤ length) × (length ≤ 8) }
@@ -18,31 +12,23 @@ fn nought(length: usize) -> u64
     1 << (8 * length - 2)
 }
 
-pub fn scale(word: u64, length: usize) -> Scaled
+// The scaled coefficient, or the refusal of the length or of the word.
+pub fn scale(word: u64, length: usize) -> Result<i64, Refusal>
     ensures { result ≡ scaled_of word length }
 {
     if length == 0 {
-        return Scaled::Refused(Refusal {
-            reason: Reason::ValueLength,
-            place: 0,
-        });
+        return Err(Reason::ValueLength.at(0));
     }
     if 8 < length {
-        return Scaled::Refused(Refusal {
-            reason: Reason::ValueLength,
-            place: 0,
-        });
+        return Err(Reason::ValueLength.at(0));
     }
     let unit = nought(length);
     if 2 * unit < word {
-        return Scaled::Refused(Refusal {
-            reason: Reason::ValueRange,
-            place: 0,
-        });
+        return Err(Reason::ValueRange.at(0));
     }
     if unit <= word {
-        Scaled::Value((word - unit) as i64)
+        Ok((word - unit) as i64)
     } else {
-        Scaled::Value(0 - ((unit - word) as i64))
+        Ok(0 - ((unit - word) as i64))
     }
 }

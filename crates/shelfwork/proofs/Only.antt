@@ -7,13 +7,16 @@ use lib.Dec.{eqb, leb}
 use contract.Lifetimes.{Lfts}
 use borrow.Fn.Kinds.{Dens, res_t, ended_of}
 use denote.Triple.Clauses.{AtExit}
-use Rattle.verdict.specs.declared.Verdict.{Verdict}
+use Rattle.std.specs.Prelude.{Result, Ok, Err}
+use Rattle.verdict.specs.declared.Refusal.{Refusal}
+use Rattle.verdict.proofs.Answering.{written_own}
+use Rattle.text.specs.declared.Failure.{Failure}
 use Rattle.verdict.proofs.OneAnswer.{OneAnswer}
 use Rattle.report.proofs.Chunks.{fed_one}
 use Rattle.shelfwork.specs.declared.Done.{Done}
-use Rattle.shelfwork.specs.declared.Done.TheVariants.{Read, Wrote, Said, Failed}
+use Rattle.shelfwork.specs.declared.Done.TheVariants.{Read, Wrote, Said}
 use Rattle.shelfwork.specs.declared.Work.{Work}
-use Rattle.shelfwork.specs.Work.{chunk_end, left_of, behind_feed, FedLeft, Unfed, FedOn, verdict_ask, asking, Ended, chunk_read, AfterRead, Stopped, AfterWrite, After}
+use Rattle.shelfwork.specs.Work.{chunk_end, left_of, behind_feed, FedLeft, Unfed, FedOn, written_ask, asking, Ended, chunk_read, AfterRead, Stopped, AfterWrite, After}
 use Rattle.shelfwork.proofs.begin.Kinds as begin
 use Rattle.shelfwork.proofs.begin.Reads as begin-reads
 use Rattle.shelfwork.proofs.go_on.Kinds as go_on
@@ -40,9 +43,9 @@ module _ (line out : List ℕ) (w w₁ : Work) (l l₁ o o₁ : List ℕ) where
     where
       go : (t : Bool) → cond t (Ended work out w o × (l ≡ line)) (FedOn (chunk_read work count) chunk line out w l o) → cond t (Ended work out w₁ o₁ × (l₁ ≡ line)) (FedOn (chunk_read work count) chunk line out w₁ l₁ o₁) → Alike w w₁ l l₁ o o₁
       go true p q =
-          let one : p.0.answer ≡ q.0.answer = p.0.finished.said ∙ sym q.0.finished.said in
+          let one : p.0.answer ≡ q.0.answer = written_own p.0.answer q.0.answer (p.0.finished.said ∙ sym q.0.finished.said) in
           record {
-            works = p.0.stands ∙ ap (λ (v : Verdict). record { ask = verdict_ask v false; state = work.state; number = work.state.number; length = 0; fed = 0; ended = true }) one ∙ sym q.0.stands;
+            works = p.0.stands ∙ ap (λ (v : Result ℕ Refusal). record { ask = written_ask v false; state = work.state; number = work.state.number; length = 0; fed = 0; ended = true }) one ∙ sym q.0.stands;
             lines = p.1 ∙ sym q.1;
             outs = p.0.finished.left ∙ sym q.0.finished.left;
           }
@@ -55,13 +58,13 @@ module _ (line out : List ℕ) (w w₁ : Work) (l l₁ o o₁ : List ℕ) where
       go true p q = record { works = p.stands ∙ sym q.stands; lines = p.same.lines ∙ sym q.same.lines; outs = p.same.outs ∙ sym q.same.outs }
       go false p q = fed_on_one work chunk p q
 
-  after_one : (work : Work) (done : Done) (chunk : List ℕ) → After work done chunk line out w l o → After work done chunk line out w₁ l₁ o₁ → Alike w w₁ l l₁ o o₁
-  after_one work (Read count) chunk p q = after_read_one work count chunk p q
-  after_one work Wrote chunk p q = after_write_one work chunk p q
-  after_one work Said chunk p q = record { works = p.stands ∙ sym q.stands; lines = p.same.lines ∙ sym q.same.lines; outs = p.same.outs ∙ sym q.same.outs }
-  after_one work (Failed failure) chunk p q =
+  after_one : (work : Work) (done : Result Done Failure) (chunk : List ℕ) → After work done chunk line out w l o → After work done chunk line out w₁ l₁ o₁ → Alike w w₁ l l₁ o o₁
+  after_one work (Ok (Read count)) chunk p q = after_read_one work count chunk p q
+  after_one work (Ok Wrote) chunk p q = after_write_one work chunk p q
+  after_one work (Ok Said) chunk p q = record { works = p.stands ∙ sym q.stands; lines = p.same.lines ∙ sym q.same.lines; outs = p.same.outs ∙ sym q.same.outs }
+  after_one work (Err failure) chunk p q =
       record {
-        works = p.0.stands ∙ ap (λ (v : Verdict). asking work (verdict_ask v true)) (p.0.written.said ∙ sym q.0.written.said) ∙ sym q.0.stands;
+        works = p.0.stands ∙ ap (λ (v : Result ℕ Refusal). asking work (written_ask v true)) (written_own p.0.answer q.0.answer (p.0.written.said ∙ sym q.0.written.said)) ∙ sym q.0.stands;
         lines = p.1 ∙ sym q.1;
         outs = p.0.written.left ∙ sym q.0.written.left;
       }

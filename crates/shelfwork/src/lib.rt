@@ -5,35 +5,33 @@ ghost use Rattle.std.specs.Prelude.{◌≡◌, ◌+◌};
 ghost use Rattle.std.specs.Int.{w64};
 ghost use Rattle.std.proofs.Common.{Fits};
 ghost use Rattle.report.specs.Passing.{taken_in};
-ghost use Rattle.shelfwork.specs.Work.{begun, asking, behind_feed, verdict_ask, FedOn, Ended, chunk_read, number_at, FailedAt, After};
+ghost use Rattle.shelfwork.specs.Work.{begun, asking, behind_feed, FedOn, Ended, chunk_read, number_at, FailedAt, After};
 
-use report::feed::{Feeding, State, feed, finish, start};
+use report::feed::{Fed, State, feed, finish, start};
 use text::{Failure, write_failure};
-use verdict::{Refusal, Verdict, lesser};
+use verdict::Refusal;
 
-// What is asked: to read a chunk; to write so many bytes of the output, or to say so many of them on standard error, as the last; nothing more. A refusal is 13, for memory that is too short.
-#[derive(Clone, Copy, Drop)]
+// What is asked: to read a chunk; to write so many bytes of the output, or to say so many of them on standard error, as the last; nothing more.
+#[derive(Clone, Copy, PartialEq, Eq)]
 pub enum Ask {
     Read,
     Write(usize),
     Say(usize),
     Stop,
-    Refused(Refusal),
 }
 
-// What was done of it: so many bytes were read to the front of the chunk, none at the end of the input; all that was asked was written, or was said; or it failed.
-#[derive(Drop)]
+// What was done of it: so many bytes were read to the front of the chunk, none at the end of the input; all that was asked was written, or was said.
+#[derive(Clone, Copy, PartialEq, Eq)]
 pub enum Done {
     Read(usize),
     Wrote,
     Said,
-    Failed(Failure),
 }
 
-// Where the work stands: what is asked; the report's state; the number of the first line in what is to be written; how long the chunk is, and how much of it was fed; whether the input ended.
-#[derive(Clone, Copy, Drop)]
+// Where the work stands: what is asked, or a refusal, which is 13, for memory that is too short; the report's state; the number of the first line in what is to be written; how long the chunk is, and how much of it was fed; whether the input ended.
+#[derive(Clone, Copy, PartialEq, Eq)]
 pub struct Work {
-    pub ask: Ask,
+    pub ask: Result<Ask, Refusal>,
     pub state: State,
     pub number: u64,
     pub length: usize,
@@ -45,10 +43,9 @@ pub struct Work {
 pub fn begin() -> Work
     ensures { result ≡ begun }
 {
-    let state = start();
     Work {
-        ask: Ask::Read,
-        state,
+        ask: Ok(Ask::Read),
+        state: start(),
         number: 1,
         length: 0,
         fed: 0,
@@ -57,42 +54,26 @@ pub fn begin() -> Work
 }
 
 // The same work, with this asked.
-fn ask_for(work: Work, ask: Ask) -> Work
+fn ask_for(work: Work, ask: Result<Ask, Refusal>) -> Work
     ensures { result ≡ asking work ask }
 {
-    let state = work.state;
-    Work {
-        ask,
-        state,
-        number: work.number,
-        length: work.length,
-        fed: work.fed,
-        ended: work.ended,
-    }
+    Work { ask, ..work }
 }
 
 // The work behind a call of `feed`.
-fn behind_feed(work: Work, answer: Feeding) -> Work
+fn behind_feed(work: Work, answer: Result<Fed, Refusal>) -> Work
     requires { Fits w64 (work.fed + taken_in answer) }
     ensures { result ≡ behind_feed work answer }
 {
     match answer {
-        Feeding::Fed {
-            state,
-            taken,
-            written,
-        } => {
-            let before = work.state;
-            Work {
-                ask: Ask::Write(written),
-                state,
-                number: before.number,
-                length: work.length,
-                fed: work.fed + taken,
-                ended: work.ended,
-            }
-        }
-        Feeding::Refused(refusal) => ask_for(work, Ask::Refused(refusal)),
+        Ok(part) => Work {
+            ask: Ok(Ask::Write(part.written)),
+            state: part.state,
+            number: work.state.number,
+            fed: work.fed + part.taken,
+            ..work
+        },
+        Err(refusal) => ask_for(work, Err(refusal)),
     }
 }
 
@@ -100,43 +81,23 @@ fn behind_feed(work: Work, answer: Feeding) -> Work
 fn feed_more(work: Work, chunk: &[u8], line: &mut [u8], out: &mut [u8]) -> Work
     ensures { FedOn work chunk.now line.old out.old result line.new out.new }
 {
-    let end = lesser(work.length, chunk.len());
+    let end = work.length.min(chunk.len());
     let from = work.fed;
     if end <= from {
-        return ask_for(work, Ask::Read);
+        return ask_for(work, Ok(Ask::Read));
     }
-    let before = work.state;
-    let answer = feed(before, &chunk[from..end], line, out);
+    let answer = feed(work.state, &chunk[from..end], line, out);
     behind_feed(work, answer)
-}
-
-// What is asked where this was written to the output: to write it to standard output, or to say it on standard error.
-fn ask_of(verdict: Verdict, last: bool) -> Ask
-    ensures { result ≡ verdict_ask verdict last }
-{
-    match verdict {
-        Verdict::Complete(count) => {
-            if last {
-                return Ask::Say(count);
-            }
-            Ask::Write(count)
-        }
-        Verdict::Unfinished(_) => Ask::Stop,
-        Verdict::Refused(refusal) => Ask::Refused(refusal),
-    }
 }
 
 // The input ended: the report line of an open last line is to be written, if there is one.
 fn end(work: Work, out: &mut [u8]) -> Work
     ensures { Ended work out.old result out.new }
 {
-    let state = work.state;
-    let finished = finish(state, out);
-    let ask = ask_of(finished, false);
     Work {
-        ask,
-        state,
-        number: state.number,
+        ask: finish(work.state, out).map(Ask::Write),
+        state: work.state,
+        number: work.state.number,
         length: 0,
         fed: 0,
         ended: true,
@@ -147,9 +108,8 @@ fn end(work: Work, out: &mut [u8]) -> Work
 fn number_at(work: Work, failure: Failure) -> u64
     ensures { result ≡ number_at work failure }
 {
-    let state = work.state;
     match failure {
-        Failure::Reading => state.number,
+        Failure::Reading => work.state.number,
         Failure::Writing => work.number,
     }
 }
@@ -158,44 +118,38 @@ fn number_at(work: Work, failure: Failure) -> u64
 fn fail(work: Work, failure: Failure, out: &mut [u8]) -> Work
     ensures { FailedAt work failure out.old result out.new }
 {
-    let written = write_failure(failure, number_at(work, failure), out);
-    let ask = ask_of(written, true);
-    ask_for(work, ask)
+    let answer = write_failure(failure, number_at(work, failure), out);
+    ask_for(work, answer.map(Ask::Say))
 }
 
 // The work with so many bytes in the chunk.
 fn chunk_read(work: Work, count: usize) -> Work
     ensures { result ≡ chunk_read work count }
 {
-    let state = work.state;
     Work {
-        ask: Ask::Read,
-        state,
-        number: work.number,
+        ask: Ok(Ask::Read),
         length: count,
         fed: 0,
-        ended: work.ended,
+        ..work
     }
 }
 
 // What comes of what was done: at the end of the input the work ends, behind a read and behind a write the chunk is fed, and nothing more is asked behind what was said, or behind the last write.
-pub fn go_on(work: Work, done: Done, chunk: &[u8], line: &mut [u8], out: &mut [u8]) -> Work
+pub fn go_on(
+    work: Work,
+    done: Result<Done, Failure>,
+    chunk: &[u8],
+    line: &mut [u8],
+    out: &mut [u8],
+) -> Work
     ensures { After work done chunk.now line.old out.old result line.new out.new }
 {
     match done {
-        Done::Read(count) => {
-            if count == 0 {
-                return end(work, out);
-            }
-            feed_more(chunk_read(work, count), chunk, line, out)
-        }
-        Done::Wrote => {
-            if work.ended {
-                return ask_for(work, Ask::Stop);
-            }
-            feed_more(work, chunk, line, out)
-        }
-        Done::Said => ask_for(work, Ask::Stop),
-        Done::Failed(failure) => fail(work, failure, out),
+        Ok(Done::Read(0)) => end(work, out),
+        Ok(Done::Read(count)) => feed_more(chunk_read(work, count), chunk, line, out),
+        Ok(Done::Wrote) if work.ended => ask_for(work, Ok(Ask::Stop)),
+        Ok(Done::Wrote) => feed_more(work, chunk, line, out),
+        Ok(Done::Said) => ask_for(work, Ok(Ask::Stop)),
+        Err(failure) => fail(work, failure, out),
     }
 }

@@ -7,7 +7,7 @@ use native.Mathlib.Omega.{arith}
 use lib.Dec.{eqb, ltb}
 use lib.ListN.{length}
 use Rattle.verdict.specs.declared.Reason.TheVariants.{FormatAlone}
-use Rattle.verdict.specs.declared.Judged.TheVariants.{Broken}
+use Rattle.std.specs.Prelude.{Err}
 use Rattle.verdict.specs.declared.Verdict.{Verdict}
 use Rattle.verdict.specs.declared.Verdict.TheVariants.{Refused}
 use Rattle.verdict.specs.Judgement.{judgement}
@@ -41,7 +41,7 @@ module _ (told : Told) (n c : ℕ) (h : 1 ≤ n) (l : n ≤ 64) (top : c / 128 �
   to_control1 : verdict_of told bytes ≡ verdict_behind (in_first (first n c) c) bytes 2
   to_control1 = size_next told bytes n (omega arith) refl (kept_judgement (size_rows n) (size_rows_lem n h l)) ∙ first_step told bytes n c (omega arith) refl (mode_two told c top)
 
-  first_refused : judgement (control1_rows (first n c) c) ≡ Broken FormatAlone → verdict_of told bytes ≡ alone_at 1
+  first_refused : judgement (control1_rows (first n c) c) ≡ Err FormatAlone → verdict_of told bytes ≡ alone_at 1
   first_refused e = to_control1 ∙ control1_broken bytes (first n c) c FormatAlone e
 
 -- Cf is 1 and Clen is 0: refused at control byte 1

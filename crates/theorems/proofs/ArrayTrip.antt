@@ -10,7 +10,9 @@ use borrow.Fn.Kinds.{Dens, res_t, ended_of}
 use denote.Triple.Clauses.{AtExit}
 use lib.ListN.{length, take, drop, length-append, length-drop, take-append-drop}
 use lib.Seq.{slice, length-slice, length-take-le, take_at, drop_at, drop-drop, take-append-le, drop-append-le}
+use Rattle.std.specs.Prelude.{Ok}
 use Rattle.verdict.specs.declared.Verdict.{Verdict}
+use Rattle.verdict.specs.Answers.{written}
 use Rattle.verdict.specs.declared.Verdict.TheVariants.{Complete, Unfinished, Refused}
 use Rattle.verdict.specs.Says.{Bytes, Says}
 use Rattle.verdict.specs.Writing.{WrittenBy}
@@ -26,9 +28,8 @@ use Rattle.theorems.proofs.ArrayVerdicts.{array_said, array_complete, array_only
 use Rattle.array.proofs.Decoding.{meaning_back}
 use Rattle.array.proofs.Complete.{complete_meaning, complete_count}
 use Rattle.array.proofs.Offsets.{offset_below}
-use Rattle.arrayreader.specs.declared.Sizes.{Sizes}
-use Rattle.arrayreader.specs.declared.ArrayRead.TheVariants.{Array}
-use Rattle.arrayreader.specs.Reading.{sizes_of, array_read_for, array_read_of, address_in, address_for, address_of}
+use Rattle.arrayreader.specs.declared.ArrayRead.{ArrayRead}
+use Rattle.arrayreader.specs.Reading.{sizes_of, array_at, array_read_for, array_read_of, address_in, address_for, address_of}
 use Rattle.theorems.specs.ArrayTrip.{sizes_listed, array_read, ReadAs, ReadSays, WrittenAgain, ReadAgain, AddressedAs}
 use Rattle.arrayreader.proofs.read.Kinds as read
 use Rattle.arrayreader.proofs.read.Reads as read-reads
@@ -73,7 +74,7 @@ module _ (bytes : List ℕ) (b : Bytes bytes) where
       let long : length a.body ≡ total = m.0.body_count in
       let start : n - total ≡ length (bytes_of a) - length a.body = omega arith in
       let body : slice (n - total) n bytes ≡ a.body = ap₂ drop start (sym m.1) ∙ last.1 in
-      let same : array_read bytes (length a.sizes) (sizes_of a.sizes) a.element (n - total) n ≡ a =
+      let same : array_read bytes (record { dims = length a.sizes; sizes = sizes_of a.sizes; element = a.element; start = n - total; length = n }) ≡ a =
       ap₂ (λ (sizes array : List ℕ). record { sizes = sizes; element = a.element; body = array }) (listed_back a.sizes m.0.few_sizes) body in
       record {
         complete = subst (Says ArrayPack Why bytes) e (array_said bytes b);
@@ -106,17 +107,17 @@ given_same : (sizes : List ℕ) (element : ℕ) (body : List ℕ) (array : Meant
 given_same sizes element body array p q r = rw (p, q, r)
 
 -- what `read` answered, given to `write` with room for it
-pub read_then_write : (κs : Lfts 1) (a : Dens κs read.ps) (s : AtExit (ended_of 1 read.ps read.r) κs) (dims : ℕ) (sizes : Sizes) (element start end : ℕ)
-    → Bytes a.0.now → read-reads.Post κs a (Array dims sizes element start end) s
+pub read_then_write : (κs : Lfts 1) (a : Dens κs read.ps) (s : AtExit (ended_of 1 read.ps read.r) κs) (found : ArrayRead)
+    → Bytes a.0.now → read-reads.Post κs a (Ok found) s
     → (κs' : Lfts 3) (a' : Dens κs' write.ps) (answer : (res_t write.r κs').Denot) (s' : AtExit (ended_of 3 write.ps write.r) κs')
-    → a'.0.now ≡ sizes_listed dims sizes → a'.1.0 ≡ element → a'.1.1.0.now ≡ slice start end a.0.now → end ≤ length a'.1.1.1.0.now
-    → write-reads.Post κs' a' answer s' → WrittenAgain a.0.now end a'.1.1.1.0.now answer s'.1.1.1.0.now
-read_then_write κs a s dims sizes element start end b post κs' a' answer s' p q r room written =
+    → a'.0.now ≡ sizes_listed found.dims found.sizes → a'.1.0 ≡ found.element → a'.1.1.0.now ≡ slice found.start found.length a.0.now → found.length ≤ length a'.1.1.1.0.now
+    → write-reads.Post κs' a' answer s' → WrittenAgain a.0.now found.length a'.1.1.1.0.now (written answer) s'.1.1.1.0.now
+read_then_write κs a s found b post κs' a' answer s' p q r room post' =
     let bytes = a.0.now in
-    let array = array_read bytes dims sizes element start end in
-    again bytes b array start end (read_says κs a (Array dims sizes element start end) s b post)
+    let array = array_read bytes found in
+    again bytes b array found.start found.length (read_says κs a (Ok found) s b post)
     (meaning_given a'.0.now a'.1.0 a'.1.1.0.now) (given_same a'.0.now a'.1.0 a'.1.1.0.now array p q r)
-    a'.1.1.1.0.now room answer s'.1.1.1.0.now written
+    a'.1.1.1.0.now room (written answer) s'.1.1.1.0.now post'
 
 -- ---- written, and read again
 
@@ -164,8 +165,8 @@ module _ (array : Meant) (n : ℕ) (bytes : List ℕ) (x : Begins array n bytes)
         listed = sizes_of array.sizes;
         answered =
             ap (array_read_for bytes) again_complete
-            ∙ ap (λ (m : Meant). Array (length m.sizes) (sizes_of m.sizes) m.element (n - product m.sizes * m.element) n) again_means
-            ∙ ap (λ (k : ℕ). Array (length array.sizes) (sizes_of array.sizes) array.element (n - k) n) (sym x.lawful.body_count);
+            ∙ ap (λ (m : Meant). Ok (array_at m n)) again_means
+            ∙ ap (λ (k : ℕ). Ok (record { dims = length array.sizes; sizes = sizes_of array.sizes; element = array.element; start = n - k; length = n })) (sym x.lawful.body_count);
         same_sizes = listed_back array.sizes x.lawful.few_sizes;
         same_array = again_there;
       }
@@ -199,9 +200,9 @@ module _ (array : Meant) (n : ℕ) (bytes : List ℕ) (x : Begins array n bytes)
 abbrev pub given_to : (κs : Lfts 3) → Dens κs write.ps → Meant
 given_to κs a = meaning_given a.0.now a.1.0 a.1.1.0.now
 
-module _ (κs : Lfts 3) (a : Dens κs write.ps) (s : AtExit (ended_of 3 write.ps write.r) κs) (n : ℕ) (b : Bytes a.1.1.0.now) (written : write-reads.Post κs a (Complete n) s) where
+module _ (κs : Lfts 3) (a : Dens κs write.ps) (s : AtExit (ended_of 3 write.ps write.r) κs) (n : ℕ) (b : Bytes a.1.1.0.now) (post : write-reads.Post κs a (Ok n) s) where
   begins : (bytes : List ℕ) → take n bytes ≡ take n s.1.1.1.0.now → Begins (given_to κs a) n bytes
-  begins bytes same = written_begins (given_to κs a) a.1.1.1.0.now n s.1.1.1.0.now bytes b written same
+  begins bytes same = written_begins (given_to κs a) a.1.1.1.0.now n s.1.1.1.0.now bytes b post same
 
   -- what `write` left, with anything behind it, given to `read`
   pub write_then_read : (κs' : Lfts 1) (a' : Dens κs' read.ps) (answer : (res_t read.r κs').Denot) (s' : AtExit (ended_of 1 read.ps read.r) κs')
@@ -228,16 +229,18 @@ read_begins bytes array start end r =
     }
 
 -- the same bytes given to `read` and to `address`
-pub read_then_address : (κs : Lfts 1) (a : Dens κs read.ps) (s : AtExit (ended_of 1 read.ps read.r) κs) (dims : ℕ) (sizes : Sizes) (element start end : ℕ)
-    → Bytes a.0.now → read-reads.Post κs a (Array dims sizes element start end) s
+pub read_then_address : (κs : Lfts 1) (a : Dens κs read.ps) (s : AtExit (ended_of 1 read.ps read.r) κs) (found : ArrayRead)
+    → Bytes a.0.now → read-reads.Post κs a (Ok found) s
     → (κs' : Lfts 2) (a' : Dens κs' address.ps) (answer : (res_t address.r κs').Denot) (s' : AtExit (ended_of 2 address.ps address.r) κs')
     → a'.0.now ≡ a.0.now → address-reads.Post κs' a' answer s'
-    → AddressedAs (array_read a.0.now dims sizes element start end) start a.0.now a'.1.0.now answer
-read_then_address κs a s dims sizes element start end b post κs' a' answer s' same addressed =
+    → AddressedAs (array_read a.0.now found) found.start a.0.now a'.1.0.now answer
+read_then_address κs a s found b post κs' a' answer s' same addressed =
     let bytes = a.0.now in
     let indices = a'.1.0.now in
-    let array = array_read bytes dims sizes element start end in
-    let r = read_says κs a (Array dims sizes element start end) s b post in
+    let array = array_read bytes found in
+    let start = found.start in
+    let end = found.length in
+    let r = read_says κs a (Ok found) s b post in
     let back : end - length (slice start end bytes) ≡ start = omega (arith, length-slice start end bytes r.complete.within, r.begins) in
     subst (λ (k : ℕ). AddressedAs array k bytes indices answer) back
     (subst (AddressedAs array (end - length (slice start end bytes)) bytes indices) (sym (addressed ∙ ap (λ (l : List ℕ). address_of l indices) same))

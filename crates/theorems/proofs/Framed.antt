@@ -32,8 +32,10 @@ use Rattle.outcome.specs.declared.Kind.TheVariants.{Matrix, Array, Unknown}
 use Rattle.outcome.specs.declared.Outcome.{Outcome}
 use Rattle.outcome.specs.declared.Outcome.TheVariants.{Ok, Cut, Bad, Open}
 use Rattle.outcome.specs.declared.FrameAnswer.{FrameAnswer}
+use Rattle.std.specs.Prelude.{Result, Ok as ResultOk, Err}
 use Rattle.berlength.specs.declared.Length.{Length}
-use Rattle.berlength.specs.declared.Length.TheVariants.{Missing, WrongForm, Of}
+use Rattle.berlength.specs.declared.NoLength.{NoLength}
+use Rattle.berlength.specs.declared.NoLength.TheVariants.{Missing, WrongForm}
 use Rattle.berlength.specs.Lengths.{length_of, shortest}
 use Rattle.berlength.proofs.Lengths.{shortest_read, Shortest, length_shortest, shortest_few}
 use Rattle.frame.specs.Frame.{longest, matrix_key, array_key, same, kind_of, outcome_of, value_answer, length_answer, key_answer, answer_of}
@@ -99,10 +101,12 @@ module _ (w value : List ℕ) (bytes : Bytes value) where
 
 -- what stands behind a key
 module _ (w : List ℕ) (found : Kind) (t : List ℕ) (bytes : Bytes t) (key : w ≡ key_of found ++ t) where
-  length_means : (length' : Length) → length_of t ≡ length' → Means w (length_answer found length' t)
-  length_means Missing e = refused_means w found FrameShort
-  length_means WrongForm e = refused_means w found LengthForm
-  length_means (Of n k) e =
+  length_means : (length' : Result Length NoLength) → length_of t ≡ length' → Means w (length_answer found length' t)
+  length_means (Err Missing) e = refused_means w found FrameShort
+  length_means (Err WrongForm) e = refused_means w found LengthForm
+  length_means (ResultOk stated) e =
+      let n = stated.value in
+      let k = stated.octets in
       let form = subst (Shortest t) e (length_shortest t bytes) in
       by_test (Means w) (eqb (length t) (k + n)) (value_answer found (drop k t)) (refusing found LengthDiffers)
       (λ s.

@@ -6,7 +6,7 @@ use mathlib.Core.Logic.{◌≢◌}
 use native.Mathlib.Nat.{pow-le-pow_right}
 use native.Mathlib.Omega.{arith}
 use lib.IntN.{pos}
-use Rattle.rule.specs.declared.scaled.Scaled.TheVariants.{Value}
+use Rattle.std.specs.Prelude.{Ok}
 use Rattle.rule.specs.Scaled.{nought_of, scaled_of}
 use Rattle.rule.proofs.Scales.{scaled_nought}
 use Rattle.matrix.specs.declared.Fields.{Fields}
@@ -17,7 +17,7 @@ module _ (f : Fields) (mapped : f.cf ≡ true) (least : 1 ≤ f.clen) (most : f.
   nought_is : nought f ≡ nought_of f.clen
   nought_is = rw mapped
 
-  pub nought_scaled : scaled_of (nought f) f.clen ≡ Value (pos 0)
+  pub nought_scaled : scaled_of (nought f) f.clen ≡ Ok (pos 0)
   nought_scaled = rw nought_is (scaled_nought f.clen least most)
 
   -- the nought is not the word 0, which is the scaled value −1

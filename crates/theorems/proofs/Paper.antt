@@ -38,8 +38,9 @@ use Rattle.theorems.proofs.ArrayVerdicts.{array_said}
 use Rattle.array.proofs.Lengths.{array_short}
 use Rattle.array.proofs.Complete.{complete_meaning}
 use Rattle.array.proofs.Offsets.{offset_below}
-use Rattle.arrayreader.specs.declared.Addressed.{Addressed}
-use Rattle.arrayreader.specs.declared.Addressed.TheVariants.{Offset, Refused as AddressedRefused}
+use Rattle.verdict.specs.declared.Stop.{Stop}
+use Rattle.verdict.specs.declared.Stop.TheVariants.{Refused as StopRefused}
+use Rattle.verdict.specs.Answers.{said}
 use Rattle.arrayreader.specs.Reading.{address_for}
 use Rattle.verdict.specs.Lent.{said_for}
 use Rattle.matrixcheck.specs.Given.{meaning_given as matrixGiven}
@@ -53,8 +54,10 @@ use Rattle.outcome.specs.declared.Outcome.{Outcome}
 use Rattle.outcome.specs.declared.Outcome.TheVariants.{Ok, Cut, Bad, Open}
 use Rattle.outcome.specs.declared.FrameAnswer.{FrameAnswer}
 use Rattle.outcome.specs.Refusing.{refusing as refusingFrame}
+use Rattle.std.specs.Prelude.{Result, Ok as ResultOk, Err}
 use Rattle.berlength.specs.declared.Length.{Length}
-use Rattle.berlength.specs.declared.Length.TheVariants.{Missing, WrongForm, Of}
+use Rattle.berlength.specs.declared.NoLength.{NoLength}
+use Rattle.berlength.specs.declared.NoLength.TheVariants.{Missing, WrongForm}
 use Rattle.berlength.specs.Lengths.{length_of}
 use Rattle.frame.specs.Frame.{longest, kind_of, outcome_of, value_answer, length_answer, key_answer, answer_of}
 use Rattle.theorems.specs.Paper.{PaperBy}
@@ -62,7 +65,7 @@ use Rattle.listing.specs.Packed.{PackedBy}
 use Rattle.cmatrix.specs.Format.{told_by, verdict_by, UnpackedUnder, ExpandedUnder}
 use Rattle.cmatrix.specs.Fields.{FieldsBy}
 use Rattle.cmatrix.specs.Writing.{fields_given, number_rows, MatrixWritten}
-use Rattle.carray.specs.Addressed.{addressed, addressed_of}
+use Rattle.carray.specs.Addressed.{addressed_of}
 use Rattle.carray.specs.Numbers.{NumbersBy}
 use Rattle.carray.specs.Writing.{ArrayWritten}
 use Rattle.cframe.specs.Said.{said_of}
@@ -126,11 +129,11 @@ written_occurs [] count h = h tt
 written_occurs (row ∷ rows) count h = by_test Occurs row.broken (refusing row.reason) (decided rows (Complete count)) (λ e. omega arith) (λ e. written_occurs rows count (λ k. h (e, k)))
 
 -- an offset is below the length of its array
-address_occurs : (bytes indices : List ℕ) → Bytes bytes → (v : Verdict) → arrayVerdict bytes ≡ v → Occurs v → Occurs (addressed (address_for bytes indices v))
+address_occurs : (bytes indices : List ℕ) → Bytes bytes → (v : Verdict) → arrayVerdict bytes ≡ v → Occurs v → Occurs (said (address_for bytes indices v))
 address_occurs bytes indices b (Complete end) e h =
     let a = meaning_of bytes in
     let g = (complete_meaning bytes b end e).0 in
-    by_test (λ (x : Addressed). Occurs (addressed x)) (inside a.sizes indices) (Offset (offset a.sizes indices * a.element)) (AddressedRefused (record { reason = Index; place = 0 }))
+    by_test (λ (x : Result ℕ Stop). Occurs (said x)) (inside a.sizes indices) (ResultOk (offset a.sizes indices * a.element)) (Err (StopRefused (record { reason = Index; place = 0 })))
     (λ t. let most : offset a.sizes indices * a.element ≤ product a.sizes * a.element = mul-le-mul_right a.element (omega (arith, offset_below a.sizes indices t)) in omega (arith, most, g.bytes_most))
     (λ t. omega arith)
 address_occurs bytes indices b (Unfinished missing) e h = h
@@ -156,11 +159,12 @@ value_within Matrix value b = outcome_within (matrixVerdict (stating false) valu
 value_within Array value b = outcome_within (arrayVerdict value) (length value) (array_occurs value b)
 value_within Unknown value b = omega arith
 
-length_within : (kind : Kind) (found : Length) (w : List ℕ) → Bytes w → WithinAnswer (length_answer kind found w)
-length_within kind Missing w b = omega arith
-length_within kind WrongForm w b = omega arith
-length_within kind (Of value octets) w b =
-    by_test WithinAnswer (eqb (length w) (octets + value)) (value_answer kind (drop octets w)) (refusingFrame kind LengthDiffers) (λ t. value_within kind (drop octets w) (below_drop octets w b)) (λ t. omega arith)
+length_within : (kind : Kind) (found : Result Length NoLength) (w : List ℕ) → Bytes w → WithinAnswer (length_answer kind found w)
+length_within kind (Err Missing) w b = omega arith
+length_within kind (Err WrongForm) w b = omega arith
+length_within kind (ResultOk stated) w b =
+    by_test WithinAnswer (eqb (length w) (stated.octets + stated.value)) (value_answer kind (drop stated.octets w)) (refusingFrame kind LengthDiffers)
+    (λ t. value_within kind (drop stated.octets w) (below_drop stated.octets w b)) (λ t. omega arith)
 
 key_within : (kind : Kind) (w : List ℕ) → Bytes w → WithinAnswer (key_answer kind w)
 key_within Matrix w b = length_within Matrix (length_of w) w b

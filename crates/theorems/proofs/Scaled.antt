@@ -22,7 +22,7 @@ use Rattle.verdict.specs.Writing.{refusing}
 use Rattle.verdict.proofs.Cases.{either}
 use Rattle.word.specs.Many.{all_below}
 use Rattle.word.proofs.Gathered.{all_below_lem}
-use Rattle.rule.specs.declared.scaled.Scaled.TheVariants.{Value}
+use Rattle.std.specs.Prelude.{Ok}
 use Rattle.rule.specs.Rules.{Keeps, allowed, mapped_rule, rule_of_coefficients}
 use Rattle.rule.specs.Scaled.{scaled_of}
 use Rattle.matrix.specs.Meaning.{Matrix, pairs, Lawful, LawfulValues}
@@ -70,7 +70,7 @@ module _ (m : Matrix) (l : Lawful m) (mapped : m.fields.cf ≡ true) (least : 1 
   matrix_scaled out room answer out' s number e =
       let count = v.coefficient_count in
       let enough : length m.coefficients ≤ length out = omega arith in
-      let each : (i : ℕ) → i < pairs m.fields.n → scaled_of (get_or m.coefficients i 0) n ≡ Value (get_or out' i (pos 0)) =
+      let each : (i : ℕ) → i < pairs m.fields.n → scaled_of (get_or m.coefficients i 0) n ≡ Ok (get_or out' i (pos 0)) =
       λ i h. scaled_each m.coefficients n least most words_scale out enough answer out' s i (omega arith) in
       record {
         answered = e ∙ ap packed_of (scaled_count m.coefficients n least most words_scale out enough answer out' s) ∙ omega (arith, count, pairs_most m.fields.n l.fields.first.size_most);

@@ -5,7 +5,7 @@ use Rattle.matrix.specs.Meaning.{Matrix, nought}
 use Rattle.matrix.specs.Order.{pair_at}
 use Rattle.unpack.specs.declared.cells.Next.{Next}
 use Rattle.matrix.specs.Expanded.{cell_word, cell_mark}
-use Rattle.unpack.specs.Found.{meaning_found, coefficient_at, Whole}
+use Rattle.unpack.specs.Found.{meaning_found, coefficient_at}
 
 -- these cells have their values, and every other entry is as it was
 pub record Cells (n : ℕ) (value : ℕ → ℕ → ℕ) (filled : ℕ → ℕ → Bool) (out₀ out : List ℕ) : Type 0 where
@@ -42,7 +42,6 @@ pub record Room (m : Matrix) (words marks : List ℕ) : Type 0 where
 
 -- before a row, whose first coefficient is the next
 pub record RowFrom (bytes : List ℕ) (found : Found) (none row : ℕ) (next : Next) (words marks : List ℕ) : Type 0 where
-  pub whole : Whole bytes found
   pub nought_is : none ≡ nought (meaning_found bytes found).fields
   pub within : row < (meaning_found bytes found).fields.n
   pub at : At (meaning_found bytes found) found row (row + 1) next
@@ -50,7 +49,6 @@ pub record RowFrom (bytes : List ℕ) (found : Found) (none row : ℕ) (next : N
 
 -- before the rows of a full matrix, whose coefficients have so many bytes each
 pub record FullFrom (bytes : List ℕ) (found : Found) (each : ℕ) (words : List ℕ) : Type 0 where
-  pub whole : Whole bytes found
   pub full : found.fields.cs ≡ false
   pub length_is : each ≡ found.fields.clen
   pub room : found.fields.n * found.fields.n ≤ length words

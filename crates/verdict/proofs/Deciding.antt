@@ -8,7 +8,7 @@ use borrow.Author.Tests.{lt-ltb, le-ltb}
 use lib.ListN.{length, drop}
 use Rattle.verdict.specs.declared.Reason.{Reason}
 use Rattle.verdict.specs.declared.Reason.TheVariants.{SmallBuffer}
-use Rattle.verdict.specs.declared.Judged.TheVariants.{Kept as JudgedKept, Broken}
+use Rattle.std.specs.Prelude.{Ok, Err}
 use Rattle.verdict.specs.declared.Verdict.{Verdict}
 use Rattle.verdict.specs.declared.Verdict.TheVariants.{Complete, Unfinished, Refused}
 use Rattle.verdict.specs.Rows.{Row, Blamed}
@@ -17,32 +17,32 @@ use Rattle.verdict.specs.Writing.{put, refusing, decided, room_rows, left_by, Wr
 use Rattle.verdict.proofs.Judging.{Kept}
 use Rattle.verdict.proofs.Putting.{put_first}
 
-pub judgement_kept : (rows : List Row) → judgement rows ≡ JudgedKept → Kept rows
+pub judgement_kept : (rows : List Row) → judgement rows ≡ Ok tt → Kept rows
 judgement_kept [] e = tt
 judgement_kept (row ∷ rows) e = go row.broken refl e (judgement_kept rows)
   where
-    go : (t : Bool) → row.broken ≡ t → cond t (Broken row.reason) (judgement rows) ≡ JudgedKept → (judgement rows ≡ JudgedKept → Kept rows) → (row.broken ≡ false) × Kept rows
+    go : (t : Bool) → row.broken ≡ t → cond t (Err row.reason) (judgement rows) ≡ Ok tt → (judgement rows ≡ Ok tt → Kept rows) → (row.broken ≡ false) × Kept rows
     go true b h f = let z : ◌≡◌ {A = ℕ} 0 1 = cc in absurd (omega arith)
     go false b h f = (b, f h)
 
 -- rules are judged in their order: where the first are kept, the later ones decide
-pub judgement_on : (rows more : List Row) → judgement rows ≡ JudgedKept → judgement (rows ++ more) ≡ judgement more
+pub judgement_on : (rows more : List Row) → judgement rows ≡ Ok tt → judgement (rows ++ more) ≡ judgement more
 judgement_on [] more e = refl
 judgement_on (row ∷ rows) more e = go row.broken e (judgement_on rows more)
   where
-    go : (t : Bool) → cond t (Broken row.reason) (judgement rows) ≡ JudgedKept → (judgement rows ≡ JudgedKept → judgement (rows ++ more) ≡ judgement more) → cond t (Broken row.reason) (judgement (rows ++ more)) ≡ judgement more
+    go : (t : Bool) → cond t (Err row.reason) (judgement rows) ≡ Ok tt → (judgement rows ≡ Ok tt → judgement (rows ++ more) ≡ judgement more) → cond t (Err row.reason) (judgement (rows ++ more)) ≡ judgement more
     go true h f = let z : ◌≡◌ {A = ℕ} 0 1 = cc in absurd (omega arith)
     go false h f = f h
 
-pub judgement_off : (rows more : List Row) (reason : Reason) → judgement rows ≡ Broken reason → judgement (rows ++ more) ≡ Broken reason
+pub judgement_off : (rows more : List Row) (reason : Reason) → judgement rows ≡ Err reason → judgement (rows ++ more) ≡ Err reason
 judgement_off [] more reason e = let z : ◌≡◌ {A = ℕ} 0 1 = cc in absurd (omega arith)
 judgement_off (row ∷ rows) more reason e = go row.broken e (judgement_off rows more reason)
   where
-    go : (t : Bool) → cond t (Broken row.reason) (judgement rows) ≡ Broken reason → (judgement rows ≡ Broken reason → judgement (rows ++ more) ≡ Broken reason) → cond t (Broken row.reason) (judgement (rows ++ more)) ≡ Broken reason
+    go : (t : Bool) → cond t (Err row.reason) (judgement rows) ≡ Err reason → (judgement rows ≡ Err reason → judgement (rows ++ more) ≡ Err reason) → cond t (Err row.reason) (judgement (rows ++ more)) ≡ Err reason
     go true h f = h
     go false h f = f h
 
-pub kept_judgement : (rows : List Row) → Kept rows → judgement rows ≡ JudgedKept
+pub kept_judgement : (rows : List Row) → Kept rows → judgement rows ≡ Ok tt
 kept_judgement [] k = refl
 kept_judgement (row ∷ rows) k = rw k.0 (kept_judgement rows k.1)
 
@@ -75,12 +75,12 @@ decided_off (row ∷ rows) more answer reason b = go row.broken b (decided_off r
     go true h f = rw h
     go false h f = f h
 
-pub judgement_blamed : (rows : List Row) (reason : Reason) → judgement rows ≡ Broken reason → Blamed rows reason
+pub judgement_blamed : (rows : List Row) (reason : Reason) → judgement rows ≡ Err reason → Blamed rows reason
 unfolding Blamed
 judgement_blamed [] reason e = let z : ◌≡◌ {A = ℕ} 0 1 = cc in absurd (omega arith)
 judgement_blamed (row ∷ rows) reason e = go row.broken e (judgement_blamed rows reason)
   where
-    go : (t : Bool) → cond t (Broken row.reason) (judgement rows) ≡ Broken reason → (judgement rows ≡ Broken reason → Blamed rows reason) → cond t (row.reason ≡ reason) (Blamed rows reason)
+    go : (t : Bool) → cond t (Err row.reason) (judgement rows) ≡ Err reason → (judgement rows ≡ Err reason → Blamed rows reason) → cond t (row.reason ≡ reason) (Blamed rows reason)
     go true h f = cc
     go false h f = f h
 

@@ -1,12 +1,12 @@
 -- Lent lists: values put over their first entries one after the other, and that they stay where a call is not complete. Assumes nothing.
-use Prim.Native.Nat.{ℕ, suc, ◌+◌, ◌≤◌, ◌<◌}
-use mathlib.Core.Path.{◌≡◌, refl, ◌∙◌, ap}
+use Prim.Native.Nat.{ℕ, suc, ◌+◌, ◌<◌}
+use mathlib.Core.Path.{◌≡◌, refl}
 use mathlib.Core.Bool.{Bool, true}
 use mathlib.Core.List.{List}
 use native.Mathlib.Numerals.{add-one}
 use native.Mathlib.Omega.{arith}
-use lib.ListN.{length, take, drop, get_or, set, length-append, length-take, length-drop}
-use lib.Seq.{take-suc, drop-cons, set_at, append_snoc, length-take-le, take_all}
+use lib.ListN.{length, take, drop, get_or, set}
+use lib.Seq.{take-suc, drop-cons, set_at, append_snoc, length-take-le}
 use Rattle.verdict.specs.declared.Reason.TheVariants.{SmallBuffer}
 use Rattle.verdict.specs.declared.Refusal.{Refusal}
 use Rattle.verdict.specs.declared.Verdict.TheVariants.{Complete, Unfinished, Refused}
@@ -24,13 +24,6 @@ module _ {A : Type 0} (values out₀ out : List A) (i : ℕ) (is : out ≡ over_
   -- one entry more
   pub filled_more : (d value : A) → i < length values → i < length out₀ → value ≡ get_or values i d → set out i value ≡ over_first (i + 1) values out₀
   filled_more d value h k e = rw (is, e) (over_more d values out₀ i h k)
-
-  pub filled_length : i ≤ length values → i ≤ length out₀ → length out ≡ length out₀
-  filled_length h k = ap length is ∙ simp (length-append, length-take, length-drop) (omega arith)
-
-  -- all entries
-  pub filled_all : length values ≡ i → out ≡ over values out₀
-  filled_all e = is ∙ rw (← e, take_all (length values) values (omega arith))
 
 -- the same values over the same list
 pub over_same : {A : Type 0} (values others out left : List A) → left ≡ over others out → values ≡ others → left ≡ over values out

@@ -11,3 +11,4 @@ pub mod Deciding
 pub mod Lent
 pub mod OneAnswer
 pub mod Only
+pub mod Answering

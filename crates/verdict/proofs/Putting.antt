@@ -1,8 +1,9 @@
 -- Laws of bytes put over those at a place: in two parts, one more behind, one more in front. Assumes nothing.
-use Prim.Native.Nat.{ℕ, suc, ◌+◌, ◌≤◌, ◌<◌}
+use Prim.Native.Nat.{ℕ, suc, ◌+◌, ◌-◌, ◌≤◌, ◌<◌}
 use mathlib.Core.Path.{◌≡◌, ◌∙◌, sym}
 use mathlib.Core.List.{List, [], ◌∷◌, ◌++◌, append_assoc}
 use native.Mathlib.Omega.{arith}
+use borrow.Rule.Slice.PartMut.{put_mid, Post-is}
 use native.Mathlib.Nat.{add_assoc, add-zero, zero-add}
 use lib.ListN.{length, take, drop, get_or, set, length-append, length-take, length-drop, take-append-drop}
 use lib.Seq.{take_at, drop_at, drop-append-add, drop-drop, take-suc, set_at, append_snoc, length-take-le, set_split}
@@ -41,10 +42,6 @@ pub put_one : (out : List ℕ) (place x : ℕ) → place < length out → set ou
 unfolding put
 put_one out place x h = rw (set_split out place x h) (let e : suc place ≡ place + 1 = omega arith in rw e)
 
--- one byte, and more behind it
-pub put_behind : (out : List ℕ) (place x : ℕ) (q : List ℕ) → place < length out → put (set out place x) (place + 1) q ≡ put out place (x ∷ q)
-put_behind out place x q h = rw (put_one out place x h) (put_put out place (x ∷ []) q (omega arith))
-
 -- one byte more behind
 pub put_more : (out : List ℕ) (place : ℕ) (p : List ℕ) (x : ℕ) → place + length p < length out → set (put out place p) (place + length p) x ≡ put out place (p ++ (x ∷ []))
 put_more out place p x h =
@@ -64,9 +61,7 @@ put_before out place p x h =
     let e : place + suc (length p) ≡ suc place + length p = omega arith in
     rw (take-suc out place 0 h, append_snoc, e) (set_at (take place out) (get_or out place 0) (p ++ drop (suc place + length p) out) x place (length-take-le place out (omega arith)))
 
--- the front of a text, and one byte more of it
-pub put_front : (out : List ℕ) (place : ℕ) (text : List ℕ) (i : ℕ) → place + i < length out → i < length text
-    → set (put out place (take i text)) (place + i) (get_or text i 0) ≡ put out place (take (suc i) text)
-put_front out place text i h k =
-    let l : length (take i text) ≡ i = length-take-le i text (omega arith) in
-    rw (take-suc text i 0 k) (rw l at (put_more out place (take i text) (get_or text i 0) (rw l h)))
+-- copied over a part of the list
+pub put_part : (out : List ℕ) (place end : ℕ) (bytes : List ℕ) → place + length bytes ≡ end → put_mid place (end - place) out bytes ≡ put out place bytes
+unfolding put
+put_part out place end bytes e = rw (Post-is {X = ℕ} place end out (omega arith), ← e)

@@ -7,4 +7,5 @@ pub mod Writing
 pub mod Lent
 pub mod Filling
 pub mod Judgement
+pub mod Answers
 pub mod Stated

@@ -1,6 +1,8 @@
 -- What an answer states in document 01's terms, whatever enum it is of.
 use Rattle.std.specs.Prelude.{ℕ, List}
 use Rattle.verdict.specs.declared.Refusal.{Refusal}
+use Rattle.verdict.specs.declared.Stop.{Stop}
+use Rattle.verdict.specs.declared.Stop.TheVariants.{Unfinished as StopUnfinished, Refused as StopRefused}
 use Rattle.verdict.specs.declared.Verdict.{Verdict}
 use Rattle.verdict.specs.declared.Verdict.TheVariants.{Complete, Unfinished, Refused}
 use Rattle.verdict.specs.Numbers.{number_of}
@@ -14,6 +16,11 @@ pub data Stated : Type 0 where
 -- a refusal states its reason's number and its place
 abbrev pub stated_refusal : Refusal → Stated
 stated_refusal refusal = refuses (number_of refusal.reason) refusal.place
+
+-- and why there is no whole pack
+abbrev pub stated_stop : Stop → Stated
+stated_stop (StopUnfinished missing) = misses missing
+stated_stop (StopRefused refusal) = stated_refusal refusal
 
 -- a verdict states what is missing or refused, and a complete one the values that come with it
 abbrev pub stated_verdict : Verdict → List ℕ → Stated

@@ -11,7 +11,7 @@ use lib.Dec.{ltb}
 use lib.ListN.{length, take, get_or}
 use lib.Pow.{pow_pos}
 use lib.Seq.{take-suc}
-use Rattle.verdict.specs.declared.Judged.TheVariants.{Kept, Broken}
+use Rattle.std.specs.Prelude.{Ok, Err}
 use Rattle.verdict.specs.declared.Reason.TheVariants.{ValueRange}
 use Rattle.verdict.specs.Judgement.{judgement}
 use Rattle.verdict.proofs.Cases.{both_true}
@@ -99,8 +99,8 @@ not_all_below limit words i h k = go (all_below limit words) refl
 
 -- ---- what a word too long is answered
 
-pub fit_kept : (n : ℕ) (words : List ℕ) → not (all_below (256 ^ n) words) ≡ false → Kept ≡ judgement (too_long_rows n words)
+pub fit_kept : (n : ℕ) (words : List ℕ) → not (all_below (256 ^ n) words) ≡ false → Ok tt ≡ judgement (too_long_rows n words)
 fit_kept n words e = rw e
 
-pub long_broken : (n : ℕ) (words : List ℕ) → not (all_below (256 ^ n) words) ≡ true → Broken ValueRange ≡ judgement (too_long_rows n words)
+pub long_broken : (n : ℕ) (words : List ℕ) → not (all_below (256 ^ n) words) ≡ true → Err ValueRange ≡ judgement (too_long_rows n words)
 long_broken n words e = rw e

@@ -7,7 +7,8 @@ use lib.Dec.{ltb}
 use lib.ListN.{length}
 use Rattle.verdict.specs.declared.Reason.TheVariants.{ValueLength}
 use Rattle.verdict.specs.Stated.{gives, misses, refuses}
-use Rattle.word.specs.declared.bytes.Read.TheVariants.{Word, Unfinished, Refused}
+use Rattle.std.specs.Prelude.{Ok, Err}
+use Rattle.verdict.specs.declared.Stop.TheVariants.{Unfinished, Refused}
 use Rattle.word.specs.Bytes.{word_at, read_of}
 use Rattle.word.specs.Stated.{stated_read}
 
@@ -17,7 +18,7 @@ pub read_states : (bytes : List ℕ) (place n : ℕ)
 read_states bytes place n = by (ltb 8 n) (ltb (length bytes - place) n)
   where
     by : (long short : Bool)
-        → stated_read (cond long (Refused (record { reason = ValueLength; place = 0 })) (cond short (Unfinished (n - (length bytes - place))) (Word (word_at bytes place n))))
+        → stated_read (cond long (Err (Refused (record { reason = ValueLength; place = 0 }))) (cond short (Err (Unfinished (n - (length bytes - place)))) (Ok (word_at bytes place n))))
         ≡ cond long (refuses 6 0) (cond short (misses (n - (length bytes - place))) (gives (word_at bytes place n ∷ [])))
     by true short = refl
     by false true = refl

@@ -10,8 +10,7 @@ use borrow.Author.Tests.{eqb-true, eqb-false, eq-eqb, lt-ltb, le-ltb, ltb-false,
 use lib.Dec.{eqb}
 use lib.ListN.{length, take, drop, get_or, set, length-append, length-drop, drop_of_length-le, take-append-drop}
 use lib.Seq.{take_at, drop_at, take_all, take-suc, take-add, take-append-le, drop-append-le, drop-drop, length-take-le}
-use Rattle.verdict.specs.declared.Judged.{Judged}
-use Rattle.verdict.specs.declared.Judged.TheVariants.{Kept as JudgedKept, Broken}
+use Rattle.std.specs.Prelude.{Result, Ok, Err}
 use Rattle.verdict.specs.declared.Reason.{Reason}
 use Rattle.verdict.specs.declared.Reason.TheVariants.{ValueLength, Disagree}
 use Rattle.verdict.specs.Judgement.{judgement}
@@ -208,10 +207,10 @@ module _ (out₀ words : List ℕ) (n : ℕ) where
 -- ---- what reading and writing many answers: a refusal leaves the list, and the count of its entries comes with all of them
 
 module _ (rows : List Row) (list out : List ℕ) where
-  pub many_refused : (reason : Reason) → Broken reason ≡ judgement rows → WrittenBy rows list out 0 (refusing reason) out
+  pub many_refused : (reason : Reason) → Err reason ≡ judgement rows → WrittenBy rows list out 0 (refusing reason) out
   many_refused reason e = subst (λ (rs : List Row). WrittenBy rs list out 0 (refusing reason) out) (append-nil rows) (written_off rows [] list out 0 reason (judgement_blamed rows reason (sym e)))
 
-  pub whole_left : (out' : List ℕ) → JudgedKept ≡ judgement rows → length list ≡ length out → out' ≡ list → WrittenBy rows list out 0 (Complete (length out')) out'
+  pub whole_left : (out' : List ℕ) → Ok tt ≡ judgement rows → length list ≡ length out → out' ≡ list → WrittenBy rows list out 0 (Complete (length out')) out'
   whole_left out' k l p =
       let e = decided_kept rows (Complete (length list)) (judgement_kept rows (sym k)) in
       record { said = rw e (ap (λ (bs : List ℕ). Complete (length bs)) p); left = rw e (p ∙ sym (put_whole out list l)) }
@@ -220,17 +219,17 @@ module _ (rows : List Row) (list out : List ℕ) where
   kept_left k answer out' w l = w.left ∙ rw (decided_kept rows (Complete (length list)) k) (put_whole out list l)
 
 module _ (n words bytes : ℕ) where
-  pub judged_long : 8 < n → Broken ValueLength ≡ judgement (many_rows n words bytes)
+  pub judged_long : 8 < n → Err ValueLength ≡ judgement (many_rows n words bytes)
   judged_long h = rw (lt-ltb 8 n h)
 
   module _ (short : n ≤ 8) (held : Bool) (is : held ≡ eqb bytes (words * n)) where
-    pub judged_apart : not held ≡ true → Broken Disagree ≡ judgement (many_rows n words bytes)
+    pub judged_apart : not held ≡ true → Err Disagree ≡ judgement (many_rows n words bytes)
     judged_apart e = rw (le-ltb 8 n short, ← is, e)
 
-    pub judged_kept : not held ≡ false → JudgedKept ≡ judgement (many_rows n words bytes)
+    pub judged_kept : not held ≡ false → Ok tt ≡ judgement (many_rows n words bytes)
     judged_kept e = rw (le-ltb 8 n short, ← is, e)
 
-  pub kept_whole : JudgedKept ≡ judgement (many_rows n words bytes) → (n ≤ 8) × (bytes ≡ words * n)
+  pub kept_whole : Ok tt ≡ judgement (many_rows n words bytes) → (n ≤ 8) × (bytes ≡ words * n)
   kept_whole e = let k = judgement_kept (many_rows n words bytes) (sym e) in (ltb-false 8 n k.0, eqb-true bytes (words * n) (not-false _ k.1.0))
 
   pub whole_kept : n ≤ 8 → bytes ≡ words * n → Kept (many_rows n words bytes)
@@ -242,13 +241,13 @@ module _ (n words bytes : ℕ) where
 
 -- words that fit are written too
 module _ (n : ℕ) (words : List ℕ) (bytes : ℕ) where
-  pub judged_words : (judged : Judged) → judged ≡ judgement (many_rows n (length words) bytes) → judged ≡ JudgedKept → judgement (too_long_rows n words) ≡ judgement (write_rows n words bytes)
+  pub judged_words : (judged : Result Unit Reason) → judged ≡ judgement (many_rows n (length words) bytes) → judged ≡ Ok tt → judgement (too_long_rows n words) ≡ judgement (write_rows n words bytes)
   judged_words judged e k = sym (judgement_on (many_rows n (length words) bytes) (too_long_rows n words) (sym e ∙ k))
 
-  pub judged_off : (reason : Reason) → Broken reason ≡ judgement (many_rows n (length words) bytes) → Broken reason ≡ judgement (write_rows n words bytes)
+  pub judged_off : (reason : Reason) → Err reason ≡ judgement (many_rows n (length words) bytes) → Err reason ≡ judgement (write_rows n words bytes)
   judged_off reason e = sym (judgement_off (many_rows n (length words) bytes) (too_long_rows n words) reason (sym e))
 
-  pub fit_whole : JudgedKept ≡ judgement (write_rows n words bytes) → (n ≤ 8) × (bytes ≡ length words * n)
+  pub fit_whole : Ok tt ≡ judgement (write_rows n words bytes) → (n ≤ 8) × (bytes ≡ length words * n)
   fit_whole e =
       let k = (both_kept (many_rows n (length words) bytes) (too_long_rows n words) (judgement_kept (write_rows n words bytes) (sym e))).0 in
       kept_whole n (length words) bytes (sym (kept_judgement (many_rows n (length words) bytes) k))

@@ -1,10 +1,11 @@
 // Many words of one length, one after the other, read from bytes with one check for all.
 ghost use Rattle.std.specs.Prelude.{◌≡◌, ◌*◌, ◌≤◌, length as count, eqb};
+ghost use Rattle.verdict.specs.Answers.{written};
 ghost use Rattle.verdict.specs.Judgement.{judgement};
 ghost use Rattle.word.specs.Many.{words_in, many_rows, ReadInto};
 
 use crate::bytes::word_in;
-use verdict::{Judged, Reason, Refusal, Verdict};
+use verdict::{Reason, Refusal};
 
 // Whether so many bytes are those of so many words.
 fn holds(bytes: usize, words: usize, length: usize) -> bool
@@ -17,16 +18,16 @@ fn holds(bytes: usize, words: usize, length: usize) -> bool
 }
 
 // 6 above eight bytes, 14 where the bytes are not as many as the words have.
-pub fn judge(bytes: usize, words: usize, length: usize) -> Judged
+pub fn judge(bytes: usize, words: usize, length: usize) -> Result<(), Reason>
     ensures { result ≡ judgement (many_rows length words bytes) }
 {
     if 8 < length {
-        return Judged::Broken(Reason::ValueLength);
+        return Err(Reason::ValueLength);
     }
     if !holds(bytes, words, length) {
-        return Judged::Broken(Reason::Disagree);
+        return Err(Reason::Disagree);
     }
-    Judged::Kept
+    Ok(())
 }
 
 fn read_each(bytes: &[u8], length: usize, out: &mut [u64])
@@ -34,11 +35,9 @@ fn read_each(bytes: &[u8], length: usize, out: &mut [u64])
     ensures { out.new ≡ words_in length (count out.old) bytes.now }
 {
     let mut place = 0;
-    let mut i = 0;
-    while i < out.len() {
-        out[i] = word_in(bytes, place, length);
+    for word in out.iter_mut() {
+        *word = word_in(bytes, place, length);
         place += length;
-        i += 1;
     }
 }
 
@@ -61,15 +60,10 @@ fn read_by_length(bytes: &[u8], length: usize, out: &mut [u64])
 }
 
 // As many words of `length` bytes as `out` has entries, from all of `bytes`: their count, or a refusal that leaves `out` as it was.
-pub fn read_all(bytes: &[u8], length: usize, out: &mut [u64]) -> Verdict
-    ensures { ReadInto bytes.now length out.old result out.new }
+pub fn read_all(bytes: &[u8], length: usize, out: &mut [u64]) -> Result<usize, Refusal>
+    ensures { ReadInto bytes.now length out.old (written result) out.new }
 {
-    let judged = judge(bytes.len(), out.len(), length);
-    match judged {
-        Judged::Kept => {
-            read_by_length(bytes, length, out);
-            Verdict::Complete(out.len())
-        }
-        Judged::Broken(reason) => Verdict::Refused(Refusal { reason, place: 0 }),
-    }
+    judge(bytes.len(), out.len(), length)?;
+    read_by_length(bytes, length, out);
+    Ok(out.len())
 }

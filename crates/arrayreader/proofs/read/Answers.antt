@@ -2,5 +2,5 @@
 use Rattle.arrayreader.proofs.Answers.{sizes_found}
 use Rattle.arrayreader.proofs.read.Goals as goal
 
-pub sizes_in-sizes-requires : goal.sizes_in-sizes-requires
-sizes_in-sizes-requires c = sizes_found c.args.bytes.now (λ i. (c.type_inv.bytes i).fits) c.in-Whole.found c.in-Whole.ensures
+pub draw_again-sizes-requires : goal.draw_again-sizes-requires
+draw_again-sizes-requires c = sizes_found c.args.bytes.now (λ i. (c.type_inv.bytes i).fits) c.in_ok-found.found c.in_ok-found.ensures

@@ -7,7 +7,7 @@ use Rattle.arraywalk.proofs.from_array.Goals as goal
 pub returns-then-bytes-length : goal.returns-then-bytes-length
 returns-then-bytes-length c =
     let a = c.args in
-    c.requires.leads ∙ body_cut a.bytes.now (a.sized.product * a.element) a.start c.requires.within c.if-bytes-length.true
+    c.requires.leads ∙ body_cut a.bytes.now (a.heading.sized.product * a.heading.element) a.heading.start c.requires.within c.if-bytes-length.true
 
 pub returns : goal.returns
-returns c = let a = c.args in array_found a.bytes.now a.dims a.sized a.element a.start c.requires c.if-bytes-length.false
+returns c = let a = c.args in array_found a.bytes.now a.heading c.requires c.if-bytes-length.false

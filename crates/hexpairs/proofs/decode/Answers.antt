@@ -4,10 +4,10 @@ use Rattle.hexpairs.proofs.DigitPairs.{decoded_none, decoded_small, decoded_all}
 use Rattle.hexpairs.proofs.decode.Goals as goal
 
 pub returns-then-not-is_hex : goal.returns-then-not-is_hex
-returns-then-not-is_hex c = decoded_none _ _ (sym c.is_hex.ensures ∙ c.if-not-is_hex.true)
+returns-then-not-is_hex c = rw c.at.ensures (decoded_none c.args.text.now c.args.out.now (sym c.is_hex.ensures ∙ c.if-not-is_hex.true))
 
-pub returns-then-out-text : goal.returns-then-out-text
-returns-then-out-text c = decoded_small _ _ (sym c.is_hex.ensures ∙ c.if-not-is_hex.false) c.if-out-text.true
+pub returns-then-out-count : goal.returns-then-out-count
+returns-then-out-count c = rw c.at-then-out-count.ensures (decoded_small c.args.text.now c.args.out.now (sym c.is_hex.ensures ∙ c.if-not-is_hex.false) c.if-out-count.true)
 
 pub returns : goal.returns
-returns c = decoded_all _ _ (sym c.is_hex.ensures ∙ c.if-not-is_hex.false) c.if-out-text.false _ c.spell.ensures
+returns c = decoded_all c.args.text.now c.args.out.now (sym c.is_hex.ensures ∙ c.if-not-is_hex.false) c.if-out-count.false _ (rw c.spell.ensures)

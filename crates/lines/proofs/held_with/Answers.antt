@@ -8,11 +8,5 @@ pub returns-then-count-eq0 : goal.returns-then-count-eq0
 unfolding held_all
 returns-then-count-eq0 c = search rules
 
-pub returns-then-held-gt-LINE : goal.returns-then-held-gt-LINE
-returns-then-held-gt-LINE c = omega (arith, held_all_lem c.args.held c.args.count c.if-count-eq0.false)
-
-pub returns-then-held-count : goal.returns-then-held-count
-returns-then-held-count c = omega (arith, held_all_lem c.args.held c.args.count c.if-count-eq0.false)
-
 pub returns : goal.returns
 returns c = omega (arith, held_all_lem c.args.held c.args.count c.if-count-eq0.false)

@@ -1,10 +1,7 @@
--- The answer from here is the answer from the start; the measure is what is left of the bytes.
-use Rattle.std.proofs.Common.{length, ◌-◌, ◌≡◌, drop}
+-- The answer from here is the answer from the start.
+use Rattle.std.proofs.Common.{◌≡◌, drop}
 use Rattle.number.specs.Draw.{draw_on, draw_at}
 use Rattle.number.proofs.draw_long.Given as goal
 
 abbrev pub invariant-loop-at : goal.invariant-loop-at
 invariant-loop-at l = draw_at l.bytes l.place l.positive l.most ≡ draw_on (drop l.at l.bytes) l.at l.value l.positive l.most
-
-abbrev pub decreases-loop-at : goal.decreases-loop-at
-decreases-loop-at l = length l.bytes - l.at

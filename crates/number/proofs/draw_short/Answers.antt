@@ -1,15 +1,20 @@
 -- An octet that passed the tests is drawn.
-use Rattle.std.proofs.Common.{refl, sym, ◌∙◌, slice_index_or}
+use Rattle.std.proofs.Common.{◌≡◌, ◌<◌, ◌∙◌, true, sym, arith, slice_index_or}
 use mathlib.Core.Bool.{true≢false}
 use Rattle.number.proofs.Drawing.{short_drawn}
 use Rattle.number.proofs.draw_short.Goals as goal
-
-pub returns-then-octet-gt0 : goal.returns-then-octet-gt0
-returns-then-octet-gt0 c h =
-    let a = c.args in
-    (c.if-bytes-place.false, short_drawn a.bytes.now a.place a.positive a.most a.product (slice_index_or a.bytes.now a.place 0) c.if-bytes-place.false refl h c.if-most-product.false (λ _. c.if-octet-gt0.true))
+use Rattle.number.proofs.draw_short.Goals.{else-octet-eq0-via-then-octet-eq0+else-positive, else-octet-eq0-via-else-octet-eq0}
 
 pub returns : goal.returns
-returns c h =
+returns c =
     let a = c.args in
-    (c.if-bytes-place.false, short_drawn a.bytes.now a.place a.positive a.most a.product (slice_index_or a.bytes.now a.place 0) c.if-bytes-place.false refl h c.if-most-product.false (λ p. absurd (true≢false (sym p ∙ c.if-positive.false))))
+    let got = c.in_ok-get.ensures.lookup in
+    let there = got.3.0 in
+    let octet = c.from-octet.result in
+    let is : octet ≡ slice_index_or a.bytes.now a.place 0 = c.from-octet.ensures ∙ got.4 (omega arith) 0 in
+    let some : a.positive ≡ true → 0 < octet =
+    elim c.else-octet-eq0.branch [
+      | else-octet-eq0-via-then-octet-eq0+else-positive w ↦ λ p. absurd (true≢false (sym p ∙ w.if-positive.false))
+      | else-octet-eq0-via-else-octet-eq0 w ↦ λ p. omega (arith, w.if-octet-eq0.false)
+    ] in
+    (there, short_drawn a.bytes.now a.place a.positive a.most a.product octet there is c.if-octet-ge128.false (rw (c.from.ensures, c.from-2.ensures) at c.if-from-octet.false) some)

@@ -4,16 +4,13 @@ use Rattle.arraywriter.proofs.Measuring.{measured_all, measured_zero, measured_l
 use Rattle.arraywriter.proofs.check.product_of.Goals as goal
 
 pub returns-then-size-eq0 : goal.returns-then-size-eq0
-returns-then-size-eq0 c = let l = c.loop-i in sym (measured_zero c.args.sizes.now l.elements l.i l.invariant (omega arith) (omega arith))
+returns-then-size-eq0 c = let l = c.loop-size in sym (measured_zero c.args.sizes.now l.elements l.size-index l.invariant (omega arith) (omega arith))
 
 pub returns-then-elements-size : goal.returns-then-elements-size
-returns-then-elements-size c = let l = c.loop-i in sym (measured_large c.args.sizes.now l.elements l.i l.invariant (omega arith) (λ z. omega arith) (omega arith))
+returns-then-elements-size c = let l = c.loop-size in sym (measured_large c.args.sizes.now l.elements l.size-index l.invariant (omega arith) (λ z. omega arith) (omega arith))
 
-pub overflow_mul-elements : goal.overflow_mul-elements
-overflow_mul-elements c = let l = c.loop-i in omega (arith, (measured_more c.args.sizes.now l.elements l.i l.invariant (omega arith) (λ z. omega arith) (omega arith)).limited)
-
-pub loop-i-preserved : goal.loop-i-preserved
-loop-i-preserved c = let l = c.loop-i in rw add-one (measured_more c.args.sizes.now l.elements l.i l.invariant (omega arith) (λ z. omega arith) (omega arith))
+pub loop-size-preserved : goal.loop-size-preserved
+loop-size-preserved c = let l = c.loop-size in rw add-one (measured_more c.args.sizes.now l.elements l.size-index l.invariant (omega arith) (λ z. omega arith) (omega arith))
 
 pub returns : goal.returns
-returns c = let l = c.loop-i in sym (measured_all c.args.sizes.now l.elements l.i l.invariant (omega arith))
+returns c = let l = c.loop-size in sym (measured_all c.args.sizes.now l.elements l.size-index l.invariant (omega arith))

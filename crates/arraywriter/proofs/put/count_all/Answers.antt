@@ -6,18 +6,18 @@ use Rattle.arraywriter.proofs.put.count_all.Goals as goal
 
 pub overflow_add-count : goal.overflow_add-count
 overflow_add-count c =
-    let l = c.loop-i in
+    let l = c.loop-value in
     let v = c.args.values.now in
-    omega (arith, l.invariant, c.count_of-count.ensures, length_numbers_from v l.i (omega arith), c.requires, numbers_short v (λ k. (c.type_inv.values k).fits))
+    omega (arith, l.invariant, c.count_of-count.ensures, length_numbers_from v l.value-index (omega arith), c.requires, numbers_short v (λ k. (c.type_inv.values k).fits))
 
-pub loop-i-preserved : goal.loop-i-preserved
-loop-i-preserved c =
-    let l = c.loop-i in
-    rw add-one (omega (arith, l.invariant, c.count_of-count.ensures, length_numbers_from c.args.values.now l.i (omega arith)))
+pub loop-value-preserved : goal.loop-value-preserved
+loop-value-preserved c =
+    let l = c.loop-value in
+    rw add-one (omega (arith, l.invariant, c.count_of-count.ensures, length_numbers_from c.args.values.now l.value-index (omega arith)))
 
 pub returns : goal.returns
 returns c =
-    let l = c.loop-i in
+    let l = c.loop-value in
     let v = c.args.values.now in
-    let none : length (numbers (drop l.i v)) ≡ 0 = rw (drop_of_length-le v {i = l.i} (omega arith), numbers_none) in
+    let none : length (numbers (drop l.value-index v)) ≡ 0 = rw (drop_of_length-le v {i = l.value-index} (omega arith), numbers_none) in
     omega (arith, l.invariant)

@@ -5,28 +5,28 @@ use Rattle.number.specs.Octets.{octets, numbers}
 use Rattle.arraywriter.proofs.Parts.{put_to_none, put_to_room, put_to_more, put_to_all, numbers_from, numbers_none}
 use Rattle.arraywriter.proofs.put.put_numbers.Goals as goal
 
-pub loop-i-init : goal.loop-i-init
-loop-i-init c = let a = c.args in put_to_none a.out.now a.place (numbers a.values.now) a.place refl
+pub loop-value-init : goal.loop-value-init
+loop-value-init c = let a = c.args in put_to_none a.out.now a.place (numbers a.values.now) a.place refl
 
 pub put_number-at-requires : goal.put_number-at-requires
 put_number-at-requires c =
     let a = c.args in
-    let l = c.loop-i in
-    let next = rw (numbers_from a.values.now l.i (omega arith)) at l.invariant in
-    put_to_room a.out.now a.place (numbers a.values.now) c.requires l.at (octets (get_or a.values.now l.i 0)) (numbers (drop (suc l.i) a.values.now)) l.out next
+    let l = c.loop-value in
+    let next = rw (numbers_from a.values.now l.value-index (omega arith)) at l.invariant in
+    put_to_room a.out.now a.place (numbers a.values.now) c.requires l.at (octets (get_or a.values.now l.value-index 0)) (numbers (drop (suc l.value-index) a.values.now)) l.out next
 
-pub loop-i-preserved : goal.loop-i-preserved
-loop-i-preserved c =
+pub loop-value-preserved : goal.loop-value-preserved
+loop-value-preserved c =
     let a = c.args in
-    let l = c.loop-i in
+    let l = c.loop-value in
     let n = c.put_number-at in
-    let next = rw (numbers_from a.values.now l.i (omega arith)) at l.invariant in
+    let next = rw (numbers_from a.values.now l.value-index (omega arith)) at l.invariant in
     rw add-one
-    (put_to_more a.out.now a.place (numbers a.values.now) c.requires l.at (octets (get_or a.values.now l.i 0)) (numbers (drop (suc l.i) a.values.now)) l.out n.result n.new.out next n.ensures.value n.ensures.out_after)
+    (put_to_more a.out.now a.place (numbers a.values.now) c.requires l.at (octets (get_or a.values.now l.value-index 0)) (numbers (drop (suc l.value-index) a.values.now)) l.out n.result n.new.out next n.ensures.value n.ensures.out_after)
 
 pub returns : goal.returns
 returns c =
     let a = c.args in
-    let l = c.loop-i in
-    let all = put_to_all a.out.now a.place (numbers a.values.now) c.requires l.at (numbers (drop l.i a.values.now)) l.out (rw (drop_of_length-le a.values.now {i = l.i} (omega arith)) numbers_none) l.invariant in
+    let l = c.loop-value in
+    let all = put_to_all a.out.now a.place (numbers a.values.now) c.requires l.at (numbers (drop l.value-index a.values.now)) l.out (rw (drop_of_length-le a.values.now {i = l.value-index} (omega arith)) numbers_none) l.invariant in
     record { value = all.0; out_after = all.1 }

@@ -45,7 +45,7 @@ returns-then-out-whole c =
     let there = length a.out.now in
     let count = counted a.sizes.now a.element a.array.now c.requires c.count_of.result c.count_all.result c.count_of-2.result c.count_of.ensures c.count_all.ensures c.count_of-2.ensures in
     let missing : there < length pack = omega (arith, c.if-out-whole.true, count) in
-    room_missing pack a.out.now 0 there missing
+    rw c.at.ensures (room_missing pack a.out.now 0 there missing)
 
 pub put_given-requires : goal.put_given-requires
 put_given-requires c =

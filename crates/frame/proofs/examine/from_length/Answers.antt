@@ -3,7 +3,7 @@ use Rattle.std.proofs.Common.{sym, subst, arith}
 use Rattle.berlength.proofs.Lengths.{Few, length_few}
 use Rattle.frame.proofs.examine.from_length.Goals as goal
 
-pub overflow_add-octets : goal.overflow_add-octets
-overflow_add-octets c =
-    let few = subst Few (sym c.in-Of.ensures) (length_few c.args.bytes.now (λ i. (c.type_inv.bytes i).fits)) in
+pub overflow_add-length : goal.overflow_add-length
+overflow_add-length c =
+    let few = subst Few (sym c.in-Ok.ensures) (length_few c.args.bytes.now (λ i. (c.type_inv.bytes i).fits)) in
     record { fits = omega (arith, few) }

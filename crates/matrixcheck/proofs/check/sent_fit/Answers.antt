@@ -1,25 +1,14 @@
--- Those of the first `i` words that are sent keep the rule, and the next decides if it is sent.
-use Rattle.std.proofs.Common.{◌≡◌, refl, arith, length as count, take, get_or}
-use lib.Seq.{get_or-take, length-take-le}
-use Rattle.rule.specs.Rules.{rule_of}
-use Rattle.matrixcheck.specs.Given.{sent_fit}
-use Rattle.matrixcheck.proofs.Fitting.{sent_fit_next, sent_broken}
+-- Each mark with the word beside it.
+use Rattle.std.proofs.Common.{rules, tests, ◌||◌, ◌∙◌, ℕ, eqb}
+use Rattle.std.proofs.lemmas.Iterator.{YieldsList-from_slice, YieldsList-from_zip}
+use Rattle.std.proofs.lemmas.Iterator.Search.{all_from_yields_List}
+use Rattle.rule.specs.Rules.{admitted, rule_of}
+use Rattle.matrixcheck.proofs.Fitting.{marked_tested}
 use Rattle.matrixcheck.proofs.check.sent_fit.Goals as goal
 
-pub loop-i-init : goal.loop-i-init
-unfolding sent_fit
-loop-i-init c = (omega arith, refl)
-
-pub returns-then-not-marks-i : goal.returns-then-not-marks-i
-returns-then-not-marks-i c =
+pub returns : goal.returns
+returns c =
     let a = c.args in
-    let l = c.loop-i in
-    let marks = take a.count a.marks.now in
-    let here : get_or (take a.count a.marks.now) l.i 0 ≡ get_or a.marks.now l.i 0 = get_or-take a.count a.marks.now l.i 0 c.loop-i-test.true in
-    let few : count marks ≡ a.count = length-take-le a.count a.marks.now c.requires.1 in
-    sent_broken (rule_of a.form) marks a.words.now l.i (omega (arith, few, c.loop-i-test.true)) (rw (here, ← c.admits.ensures) c.if-not-marks-i.true)
-
-pub loop-i-preserved : goal.loop-i-preserved
-loop-i-preserved c =
-    let a = c.args in
-    (omega arith, sent_fit_next (rule_of a.form) a.marks.now a.words.now c.loop-i.i (omega arith) c.loop-i.invariant.1 (rw (← c.admits.ensures) c.if-not-marks-i.false))
+    let rule = rule_of a.form in
+    all_from_yields_List (λ (p : ℕ × ℕ). eqb p.0 0 || admitted rule p.1) c.all.new.self _ c.all.result c.all.ensures.ran (YieldsList-from_zip (YieldsList-from_slice a.marks.now cc) (YieldsList-from_slice a.words.now cc)) (λ x b q k. search (rules, tests))
+    ∙ marked_tested rule a.marks.now a.words.now c.requires

@@ -26,4 +26,7 @@ pub returns : goal.returns
 returns c =
     let a = c.args in
     let b = a.bytes.now in
-    (low_refused a.told b a.n a.c (omega arith) c.requires.1 c.if-told.false c.requires.2, omega (arith, header_least (fields_in a.told a.n (get_or b 1 0) (get_or b 2 0))))
+    rw c.at.ensures (
+      low_refused a.told b a.n a.c (omega arith) c.requires.1 c.if-told.false c.requires.2,
+      omega (arith, header_least (fields_in a.told a.n (get_or b 1 0) (get_or b 2 0))),
+    )

@@ -1,12 +1,18 @@
 -- Of the one control byte of Mode 1 the fields are judged.
-use Rattle.std.proofs.Common.{sym, arith}
+use Rattle.std.proofs.Common.{arith}
+use Rattle.matrix.specs.Table.{single_rows}
 use Rattle.matrix.proofs.Header.{header_least}
+use Rattle.matrixhead.proofs.Judging.{at_kept, at_broken}
 use Rattle.matrixhead.proofs.Heading.{single_broken, single_headed}
 use Rattle.matrixhead.proofs.header.from_single.Goals as goal
 
-pub returns-in-Kept : goal.returns-in-Kept
-returns-in-Kept c = single_headed c.args.bytes.now c.args.f c.requires.0 c.requires.1 c.requires.2.0 c.requires.2.1 (sym c.in-Kept.ensures)
+pub returns : goal.returns
+returns c =
+    let a = c.args in
+    single_headed a.bytes.now a.f c.requires.0 c.requires.1 c.requires.2.0 c.requires.2.1 (at_kept (single_rows a.f) c.judge_single.result 1 c.judge_single.ensures c.in_ok-judged_at.field-0 c.in_ok-judged_at.ensures)
 
-pub returns-in-Broken : goal.returns-in-Broken
-returns-in-Broken c =
-    (single_broken c.args.bytes.now c.args.f c.requires.0 c.requires.1 c.in-Broken.reason (sym c.in-Broken.ensures), omega (arith, header_least c.args.f))
+pub returns-in_err-judged_at : goal.returns-in_err-judged_at
+returns-in_err-judged_at c =
+    let a = c.args in
+    let broken = at_broken (single_rows a.f) c.judge_single.result 1 c.judge_single.ensures c.from_residual.result c.in_err-judged_at.field-0.0 c.in_err-judged_at.ensures c.from_residual.ensures.1 in
+    rw broken.2 (single_broken a.bytes.now a.f c.requires.0 c.requires.1 broken.0 broken.1, omega (arith, header_least a.f))

@@ -9,7 +9,7 @@ returns-then-broken-until c =
     let j = c.judge_word-broken in
     let l = c.loop-at in
     let a = c.args in
-    l.invariant.0 (omega arith) j.result (checks_over a.rule (omega arith) a.bytes.now a.until l.at (omega arith) j.result c.if-broken-until.true j.ensures)
+    l.invariant.0 (omega arith) j.result (checks_over a.ruled.rule (omega arith) a.bytes.now a.until l.at (omega arith) j.result c.if-broken-until.true j.ensures)
 
 pub loop-at-preserved : goal.loop-at-preserved
 loop-at-preserved c =
@@ -17,11 +17,11 @@ loop-at-preserved c =
     let l = c.loop-at in
     let a = c.args in
     let e : j.result ≡ a.until = omega (arith, j.ensures.within) in
-    let k : Judges a.bytes.now l.at a.until a.rule a.until = rw e at j.ensures in
-    carries_next a.rule (omega arith) a.bytes.now a.until a.place l.at l.invariant a.rule.length refl (omega arith) k
+    let k : Judges a.bytes.now l.at a.until a.ruled.rule a.until = rw e at j.ensures in
+    carries_next a.ruled.rule (omega arith) a.bytes.now a.until a.place l.at l.invariant a.ruled.rule.length refl (omega arith) k
 
 pub returns : goal.returns
 returns c =
     let l = c.loop-at in
     let a = c.args in
-    carries_all a.rule (omega arith) a.bytes.now a.until a.place l.at l.invariant (omega arith)
+    carries_all a.ruled.rule (omega arith) a.bytes.now a.until a.place l.at l.invariant (omega arith)

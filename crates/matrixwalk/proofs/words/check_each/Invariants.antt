@@ -4,7 +4,7 @@ use Rattle.matrixwalk.proofs.Passing.{Carries}
 use Rattle.matrixwalk.proofs.words.check_each.Given as goal
 
 abbrev pub invariant-loop-at : goal.invariant-loop-at
-invariant-loop-at l = Carries l.bytes l.place l.until l.rule l.at
+invariant-loop-at l = Carries l.bytes l.place l.until l.ruled.rule l.at
 
 abbrev pub decreases-loop-at : goal.decreases-loop-at
 decreases-loop-at l = l.until - l.at

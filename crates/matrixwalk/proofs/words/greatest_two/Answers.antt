@@ -10,7 +10,7 @@ loop-at-preserved c =
     let l = c.loop-at in
     let bytes = c.args.bytes.now in
     let until = c.args.until in
-    let most = c.greater_two-most in
+    let most = c.max-most in
     let next : l.at + 1 < until = c.loop-at-test.true in (
       omega (arith, c.requires.1.0),
       λ rule sound long is below.
@@ -19,9 +19,9 @@ loop-at-preserved c =
           let some : 1 ≤ rule.length = omega arith in
           let inside : l.at < until = omega arith in
           let judged : Judges bytes l.at until rule until =
-          two_below bytes l.at until rule (record { sound = sound; some = some; before = inside; within = c.requires.1.1.1 }) two next (λ i. (c.type_inv.bytes i).fits) c.two_at.result
-          (c.two_at.ensures ∙ ap (bit_and (get_or bytes l.at 0 * 256 + get_or bytes (l.at + 1) 0)) is) (omega (arith, most.ensures.1)) in
-          carries_next rule some bytes until c.args.place l.at (l.invariant.1 rule sound long is (omega (arith, most.ensures.0))) c.args.length long inside judged,
+          two_below bytes l.at until rule (record { some = some; before = inside; within = c.requires.1.1.1 }) two next (λ i. (c.type_inv.bytes i).fits) sound c.two_at.result
+          (c.two_at.ensures ∙ ap (bit_and (get_or bytes l.at 0 * 256 + get_or bytes (l.at + 1) 0)) is) (omega (arith, most.ensures)) in
+          carries_next rule some bytes until c.args.place l.at (l.invariant.1 rule sound long is (omega (arith, most.ensures))) c.args.length long inside judged,
     )
 
 pub returns-then-at-until : goal.returns-then-at-until

@@ -2,7 +2,7 @@
 use Rattle.matrixwalk.proofs.Passing.{pass_none}
 use Rattle.matrixwalk.proofs.words.pass.Goals as goal
 
-pub returns-then-rule-eq0 : goal.returns-then-rule-eq0
-returns-then-rule-eq0 c =
+pub returns-then-ruled-eq0 : goal.returns-then-ruled-eq0
+returns-then-ruled-eq0 c =
     let a = c.args in
-    pass_none a.bytes.now a.place a.words a.rule a.after c.if-rule-eq0.true c.requires.2
+    pass_none a.bytes.now a.place a.words a.ruled.rule a.after c.if-ruled-eq0.true c.requires.1

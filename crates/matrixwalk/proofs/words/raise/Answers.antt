@@ -1,4 +1,5 @@
 -- The next entry is raised behind those before it.
+use Rattle.std.proofs.Common.{arith}
 use Rattle.matrixwalk.proofs.Blocks.{raised_none, raised_more, raised_all}
 use Rattle.matrixwalk.proofs.words.raise.Goals as goal
 
@@ -8,9 +9,9 @@ loop-i-init c = raised_none c.args.bytes.now c.args.at c.args.most.now
 pub loop-i-preserved : goal.loop-i-preserved
 loop-i-preserved c =
     let l = c.loop-i in
-    raised_more c.args.bytes.now c.args.at c.args.most.now l.i l.most l.invariant c.greater.result c.loop-i-test.true c.greater.ensures.0 c.greater.ensures.1
+    raised_more c.args.bytes.now c.args.at c.args.most.now l.i l.most l.invariant c.max.result (omega arith) (omega arith) (omega arith)
 
 pub returns : goal.returns
 returns c =
     let l = c.loop-i in
-    raised_all c.args.bytes.now c.args.at c.args.most.now l.i l.most l.invariant c.loop-i-test.false
+    raised_all c.args.bytes.now c.args.at c.args.most.now l.i l.most l.invariant (omega arith)

@@ -1,5 +1,5 @@
 -- Each part has room behind the one before.
-use Rattle.std.proofs.Common.{ℕ, ◌+◌, ◌*◌, ◌≡◌, ◌≤◌, ◌<◌, min, refl, sym, ap, subst, arith, length as count, take, get_or}
+use Rattle.std.proofs.Common.{ℕ, ◌+◌, ◌*◌, ◌≤◌, refl, sym, ap, subst, arith, length as count, take, get_or}
 use Rattle.matrix.specs.Meaning.{pairs, sum}
 use Rattle.matrix.proofs.Counts.{deviations_most}
 use Rattle.matrix.proofs.Decoding.{pack_length}
@@ -7,8 +7,7 @@ use Rattle.matrix.proofs.Header.{header_most}
 use Rattle.matrix.proofs.Keeping.{vector_most}
 use Rattle.counts.proofs.Counts.{pairs_counted, vector_counted}
 use Rattle.matrixcheck.specs.Given.{meaning_given}
-use Rattle.matrixwriter.specs.Sending.{Sendable}
-use Rattle.matrixwriter.proofs.Parts.{deviations_sendable, coefficients_sendable, parts_put}
+use Rattle.matrixwriter.proofs.Parts.{deviations_sendable, coefficients_sendable, coefficients_marked, coefficients_alike, parts_put}
 use Rattle.matrixwriter.proofs.put.put_given.Goals as goal
 
 pub overflow_add-first : goal.overflow_add-first
@@ -37,13 +36,10 @@ put_vector-requires c =
     let lawful = c.requires.1.0 in
     let pairs_are = pairs_counted a.f.n c.pairs_of-pairs.result lawful.fields.first.size_most c.pairs_of-pairs.ensures in
     let vector = vector_counted a.f c.vector_bytes-vector.result lawful.fields.first.size_most c.vector_bytes-vector.ensures in (
-      omega (arith, pairs_are, c.requires.0.marks_enough),
+      omega (arith, vector, vector_most a.f lawful.fields),
       (
-        omega (arith, vector, vector_most a.f lawful.fields),
-        (
-          omega (arith, vector, c.header_bytes-header.ensures, c.requires.1.1, pack_length (meaning_given a.f a.deviations.now a.coefficients.now a.marks.now)),
-          λ i. subst (λ (k : ℕ). get_or (take k a.marks.now) i 0 ≤ 1) (sym pairs_are) (lawful.values.mark_rule i),
-        ),
+        omega (arith, vector, c.header_bytes-header.ensures, c.requires.1.1, pack_length (meaning_given a.f a.deviations.now a.coefficients.now a.marks.now)),
+        λ i. subst (λ (k : ℕ). get_or (take k a.marks.now) i 0 ≤ 1) (sym pairs_are) (lawful.values.mark_rule i),
       ),
     )
 
@@ -64,16 +60,13 @@ put_coefficients-requires c =
     let vector = vector_counted a.f c.vector_bytes-vector.result lawful.fields.first.size_most c.vector_bytes-vector.ensures in
     let room : c.header_bytes-header.result + c.vector_bytes-vector.result + a.f.n * a.f.slen + sum (take (pairs a.f.n) a.marks.now) * a.f.clen ≤ count a.out.now =
     omega (arith, vector, c.header_bytes-header.ensures, c.requires.1.1, pack_length (meaning_given a.f a.deviations.now a.coefficients.now a.marks.now)) in
-    let sendable = coefficients_sendable a.f a.deviations.now a.coefficients.now a.marks.now c.requires.0 lawful in (
-      subst (λ (k : ℕ). Sendable a.f.clen (take k a.marks.now) a.coefficients.now) (sym pairs_are) sendable,
+    let p = c.pairs_of-pairs.result in (
+      coefficients_sendable a.f a.deviations.now a.coefficients.now a.marks.now c.requires.0 lawful p pairs_are,
       (
-        omega (arith, pairs_are, c.requires.0.coefficients_enough),
+        coefficients_marked a.f a.deviations.now a.coefficients.now a.marks.now c.requires.0 lawful p pairs_are,
         (
-          omega (arith, pairs_are, c.requires.0.marks_enough),
-          (
-            omega (arith, room, ap (λ (k : ℕ). sum (take k a.marks.now) * a.f.clen) pairs_are),
-            λ full. subst (λ (k : ℕ). (i : ℕ) → i < k → get_or (take k a.marks.now) i 0 ≡ min 1 a.f.clen) (sym pairs_are) (lawful.values.all_sent full),
-          ),
+          omega (arith, room, ap (λ (k : ℕ). sum (take k a.marks.now) * a.f.clen) pairs_are),
+          coefficients_alike a.f a.deviations.now a.coefficients.now a.marks.now c.requires.0 lawful p pairs_are,
         ),
       ),
     )

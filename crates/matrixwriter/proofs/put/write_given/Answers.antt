@@ -15,7 +15,7 @@ pub returns-then-out-length : goal.returns-then-out-length
 returns-then-out-length c =
     let a = c.args in
     let counted = given_length a.f a.deviations.now a.coefficients.now a.marks.now a.sent c.length_of-length.result c.requires.counted c.length_of-length.ensures in
-    rw c.refuse.ensures (room_missing (bytes_of (meaning_given a.f a.deviations.now a.coefficients.now a.marks.now)) a.out.now 0 (count a.out.now) (omega (arith, counted, c.if-out-length.true)))
+    rw c.at.ensures (room_missing (bytes_of (meaning_given a.f a.deviations.now a.coefficients.now a.marks.now)) a.out.now 0 (count a.out.now) (omega (arith, counted, c.if-out-length.true)))
 
 pub put_given-requires : goal.put_given-requires
 put_given-requires c =

@@ -5,8 +5,8 @@ use Rattle.number.proofs.Octets.{octets_some}
 use Rattle.numberwriter.proofs.Written.{stored_last, stored_more}
 use Rattle.numberwriter.proofs.write.put_at.Goals as goal
 
-pub overflow_sub-left : goal.overflow_sub-left
-overflow_sub-left c = omega (arith, octets_some c.args.value)
+pub overflow_sub-last : goal.overflow_sub-last
+overflow_sub-last c = omega (arith, octets_some c.args.value)
 
 pub bounds-out-place : goal.bounds-out-place
 bounds-out-place c = omega (arith, octets_some c.args.value)

@@ -4,6 +4,3 @@ use Rattle.numberwriter.proofs.write.put_at.Given as goal
 
 abbrev pub invariant-loop-left : goal.invariant-loop-left
 invariant-loop-left l = Stored l.fn.out l.place l.value l.left l.rest l.out
-
-abbrev pub decreases-loop-left : goal.decreases-loop-left
-decreases-loop-left l = l.left

@@ -9,7 +9,7 @@ pub returns-then-from_place-count : goal.returns-then-from_place-count
 returns-then-from_place-count c =
     let a = c.args in
     let missing : length a.out.now - a.place < length (octets a.value) = omega arith in
-    room_missing (octets a.value) a.out.now a.place (length a.out.now - a.place) missing
+    rw c.at.ensures (room_missing (octets a.value) a.out.now a.place (length a.out.now - a.place) missing)
 
 pub put_at-requires : goal.put_at-requires
 put_at-requires c = omega (arith, octets_some c.args.value)

@@ -1,17 +1,21 @@
 -- The line that is held is answered, and its text has room.
 use Rattle.std.proofs.Common.{arith}
-use Rattle.report.proofs.Closing.{written_few, line_closed}
+use Rattle.report.proofs.Closing.{line_counted, count_one, line_closed}
 use Rattle.report.proofs.feed.close.Goals as goal
 
-pub overflow_add-result : goal.overflow_add-result
-overflow_add-result c =
+pub unwrap-count-requires : goal.unwrap-count-requires
+unwrap-count-requires c =
     let a = c.args in
-    let few = written_few a.number c.held_answer-answer.result a.out.now a.place c.write_line-written.result _ (omega arith) c.write_line-written.ensures in
-    record { fits = omega (arith, few, c.count_in.ensures, c.requires.1.1) }
+    rw (line_counted a.at c.held_answer-answer.result a.out.now c.write_line.result _ c.requires.has_room c.write_line.ensures)
+
+pub overflow_add-result-2 : goal.overflow_add-result-2
+overflow_add-result-2 c =
+    let a = c.args in
+    let w = c.write_line.ensures in
+    let count = count_one a.at c.held_answer-answer.result a.out.now c.write_line.result _ c.requires.has_room w c.unwrap-count.result c.unwrap-count.ensures in
+    record { fits = omega (arith, count, w.short, c.requires.has_room) }
 
 pub returns : goal.returns
 returns c =
     let a = c.args in
-    let h = c.held_answer-answer in
-    let w = c.write_line-written in
-    (line_closed a.number h.result a.out.now a.place w.result _ (omega arith) w.ensures a.line.now a.held h.ensures.0 c.count_in.result c.count_in.ensures, h.ensures.1)
+    line_closed a.at c.held_answer-answer.result a.out.now c.write_line.result _ c.requires.has_room c.write_line.ensures c.unwrap-count.result c.unwrap-count.ensures a.line.now c.held_answer-answer.ensures c.saturating_add.result c.saturating_add.ensures

@@ -7,7 +7,7 @@ use Rattle.frame.specs.Frame.{answer_of}
 use Rattle.hexpairs.proofs.DigitPairs.{decoded_tells, decoded_length}
 use Rattle.report.proofs.feed.held_answer.Goals as goal
 
--- as many characters as are held, and the bytes have room for what they spell
+-- no more characters are held than the longest line has, and the bytes have room for what they spell
 short : (line : List ℕ) (held : ℕ) → longest_line ≤ length line → held ≤ longest_line → length (take held line) ≤ longest_line
 short line held l h = omega (arith, length-take-le held line (omega arith))
 
@@ -17,30 +17,20 @@ fit line bytes held l b h = omega (arith, short line held l h)
 pub slice_bounds-examine-end : goal.slice_bounds-examine-end
 slice_bounds-examine-end c =
     let a = c.args in
-    let room = fit a.line.now a.bytes.now a.held c.requires.0 c.requires.1 (omega arith) in
-    let said = decoded_tells _ _ room _ _ c.in-Complete.ensures in
-    omega (arith, said.1.0, decoded_length _ _ room _ _ c.in-Complete.ensures, room)
+    let room = fit a.line.now a.bytes.now a.held c.requires (omega arith) (omega arith) in
+    let said = decoded_tells _ _ room _ _ c.in-Ok.ensures in
+    sym (length-take-le _ _ (omega (arith, said.1.0, decoded_length _ _ room _ _ c.in-Ok.ensures, room)))
 
-pub slice_bounds-examine-end-in-Complete : goal.slice_bounds-examine-end-in-Complete
-slice_bounds-examine-end-in-Complete c = sym (length-take-le _ _ (slice_bounds-examine-end c))
-
-pub returns-in-Complete : goal.returns-in-Complete
-returns-in-Complete c =
+pub returns-in-Ok : goal.returns-in-Ok
+returns-in-Ok c =
     let a = c.args in
-    let few = short a.line.now a.held c.requires.0 (omega arith) in
-    let room = fit a.line.now a.bytes.now a.held c.requires.0 c.requires.1 (omega arith) in
-    let said = decoded_tells _ _ room _ _ c.in-Complete.ensures in
-    (rw (le-ltb _ _ c.if-held-gt-LINE.false, le-ltb _ _ few, said.0) (c.examine.ensures ∙ ap answer_of said.1.1), decoded_length _ _ room _ _ c.in-Complete.ensures)
+    let few = short a.line.now a.held c.requires (omega arith) in
+    let said = decoded_tells _ _ (fit a.line.now a.bytes.now a.held c.requires (omega arith) (omega arith)) _ _ c.in-Ok.ensures in
+    rw (le-ltb _ _ c.if-held-gt-LINE.false, le-ltb _ _ few, said.0) (c.examine.ensures ∙ ap answer_of said.1.1)
 
-pub returns-in-Unfinished : goal.returns-in-Unfinished
-returns-in-Unfinished c =
+pub returns-in-Err : goal.returns-in-Err
+returns-in-Err c =
     let a = c.args in
-    absurd (decoded_tells _ _ (fit a.line.now a.bytes.now a.held c.requires.0 c.requires.1 (omega arith)) _ _ c.in-Unfinished.ensures)
-
-pub returns-in-Refused : goal.returns-in-Refused
-returns-in-Refused c =
-    let a = c.args in
-    let few = short a.line.now a.held c.requires.0 (omega arith) in
-    let room = fit a.line.now a.bytes.now a.held c.requires.0 c.requires.1 (omega arith) in
-    let said = decoded_tells _ _ room _ _ c.in-Refused.ensures in
-    (rw (le-ltb _ _ c.if-held-gt-LINE.false, le-ltb _ _ few, said.0) c.refuse-in-Refused.ensures, decoded_length _ _ room _ _ c.in-Refused.ensures)
+    let few = short a.line.now a.held c.requires (omega arith) in
+    let said = decoded_tells _ _ (fit a.line.now a.bytes.now a.held c.requires (omega arith) (omega arith)) _ _ c.in-Err.ensures in
+    rw (le-ltb _ _ c.if-held-gt-LINE.false, le-ltb _ _ few, said.0) c.refuse-in-Err.ensures

@@ -5,6 +5,3 @@ use Rattle.word.proofs.bytes.part_in.Given as goal
 
 abbrev pub invariant-loop-i : goal.invariant-loop-i
 invariant-loop-i l = (l.i ≤ l.length) × (l.value ≡ word_at l.bytes l.place l.i * 256 ^ (l.length - l.i))
-
-abbrev pub decreases-loop-i : goal.decreases-loop-i
-decreases-loop-i l = l.length - l.i

@@ -1,9 +1,0 @@
--- The place stays within the list.
-use Rattle.std.proofs.Common.{◌-◌, ◌≤◌, length}
-use Rattle.rows.proofs.say.kept_bytes.Given as goal
-
-abbrev pub invariant-loop-i : goal.invariant-loop-i
-invariant-loop-i l = l.i ≤ length l.list
-
-abbrev pub decreases-loop-i : goal.decreases-loop-i
-decreases-loop-i l = length l.list - l.i

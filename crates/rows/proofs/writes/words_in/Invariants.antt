@@ -1,9 +1,0 @@
--- There is room for a number more.
-use Rattle.std.proofs.Common.{◌-◌, ◌≤◌}
-use Rattle.rows.proofs.writes.words_in.Given as goal
-
-abbrev pub invariant-loop-i : goal.invariant-loop-i
-invariant-loop-i l = l.i ≤ 64
-
-abbrev pub decreases-loop-i : goal.decreases-loop-i
-decreases-loop-i l = 64 - l.i
