@@ -8,7 +8,7 @@ use native.Mathlib.Omega.{arith}
 use borrow.Author.Tests.{not-false, le-leb, lt-leb, leb-true, leb-false}
 use lib.Bits.{bit_and, bit_or, or_lt}
 use lib.Dec.{eqb, leb}
-use lib.ListN.{length, take, drop, get_or, replicate, length-take, length-replicate}
+use lib.ListN.{length, take, drop, get_or, replicate, length-take, length-drop, length-replicate}
 use lib.Seq.{length-take-le}
 use Rattle.rule.specs.declared.rules.Rule.{Rule}
 use Rattle.rule.specs.Rules.{admitted, cleared}
@@ -19,7 +19,8 @@ use Rattle.matrix.specs.declared.Fields.{Fields}
 use Rattle.matrix.specs.Meaning.{sum}
 use Rattle.matrix.proofs.BitVector.{sum_same}
 use Rattle.std.specs.Prelude.{Some}
-use Rattle.std.specs.List.{fold, list_all, sum as total, zip}
+use Rattle.std.proofs.lemmas.List.{drop_more}
+use Rattle.std.specs.List.{fold, list_all, sum as total}
 use Rattle.matrixcheck.specs.Marking.{marked_of}
 use Rattle.matrixcheck.specs.Given.{deviation_marks, mark_fits, marks_fit, sent_fit}
 use Rattle.matrixcheck.proofs.Entries.{marks_fitting, mark_between, keeps_sent}
@@ -106,12 +107,20 @@ module _ (rule : Rule) where
   all_tested [] = refl
   all_tested (word ∷ words) = ap (λ (t : Bool). admitted rule word && t) (all_tested words)
 
-  -- with marks beside them, those that are sent
-  pub marked_tested : (marks words : List ℕ) → length words ≡ length marks → list_all (λ p. eqb p.0 0 || admitted rule p.1) (zip marks words) ≡ sent_fit rule marks words
+  -- with marks beside them, one that is sent is tested, and then those behind it
+  pub sent_from : (marks words : List ℕ) (i : ℕ) → length words ≡ length marks → i < length marks
+      → sent_fit rule (drop i marks) (drop i words) ≡ (eqb (get_or marks i 0) 0 || admitted rule (get_or words i 0)) && sent_fit rule (drop (i + 1) marks) (drop (i + 1) words)
   unfolding sent_fit
-  marked_tested [] words l = refl
-  marked_tested (mark ∷ marks) [] l = absurd (omega arith)
-  marked_tested (mark ∷ marks) (word ∷ words) l = ap (λ (t : Bool). (eqb mark 0 || admitted rule word) && t) (marked_tested marks words (omega arith))
+  sent_from marks words i l h = ap₂ (sent_fit rule) (drop_more marks i 0 h) (drop_more words i 0 (omega arith))
+
+  -- behind the last there is none
+  none_sent : (marks words : List ℕ) → length marks ≡ 0 → true ≡ sent_fit rule marks words
+  unfolding sent_fit
+  none_sent [] words e = refl
+  none_sent (mark ∷ marks) words e = absurd (omega arith)
+
+  pub sent_behind : (marks words : List ℕ) (i : ℕ) → length marks ≤ i → true ≡ sent_fit rule (drop i marks) (drop i words)
+  sent_behind marks words i h = none_sent (drop i marks) (drop i words) (rw (length-drop {A = ℕ} i marks) (omega arith))
 
   -- words past the marks are not tested
   pub sent_front : (marks words : List ℕ) (n : ℕ) → length marks ≤ n → sent_fit rule marks (take n words) ≡ sent_fit rule marks words

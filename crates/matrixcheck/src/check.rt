@@ -85,10 +85,12 @@ fn sent_fit(form: Form, words: &[u64], marks: &[u8]) -> bool
     requires { length words.now ≡ length marks.now }
     ensures { result ≡ sent_fit (rule_of form) marks.now words.now }
 {
-    marks
-        .iter()
-        .zip(words)
-        .all(|(mark, word)| *mark == 0 || form.admits(*word))
+    for (i, &mark) in marks.iter().enumerate() {
+        if mark != 0 && !form.admits(words[i]) {
+            return false;
+        }
+    }
+    true
 }
 
 fn deviations_fit(f: Fields, deviations: &[u64]) -> bool

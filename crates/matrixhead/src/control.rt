@@ -7,6 +7,38 @@ ghost use Rattle.matrix.specs.Machine.{least_for, shortest, least_behind, least_
 use counts::{pairs_of, vector_bytes};
 use matrix::{Fields, Told};
 
+// How many variables a matrix has, by the rules of its size.
+#[derive(Clone, Copy)]
+pub(crate) struct Size {
+    pub n: usize,
+    ghost lawful: { (1 ≤ n) × (n ≤ 64) },
+}
+
+impl Size {
+    // The fewest bytes of values, where a deviation has so many at least.
+    fn least_for(self, each: usize) -> usize
+        requires { each ≤ 2 }
+        ensures { result ≡ least_for each self.n }
+    {
+        if self.n == 1 {
+            return each;
+        }
+        let m = pairs_of(self.n);
+        (self.n * each).min(m.min((m + 7) / 8 + 1))
+    }
+
+    // The fewest bytes behind the size.
+    pub(crate) fn least_behind(self, told: Told) -> usize
+        ensures { result ≡ least_behind told self.n }
+    {
+        let two = 2 + self.least_for(1);
+        if !told.mode1 {
+            return two;
+        }
+        (1 + self.least_for(shortest_of(told.mapped))).min(two)
+    }
+}
+
 // The size with what control byte 1 says.
 pub(crate) fn first_of(n: usize, c: usize) -> Fields
     ensures { result ≡ first n c }
@@ -48,35 +80,11 @@ pub(crate) fn single_of(told: Told, n: usize, c: usize) -> Fields
     }
 }
 
-// The fewest bytes of values of n variables, where a deviation has so many at least.
-fn least_for(each: usize, n: usize) -> usize
-    requires { (each ≤ 2) × (1 ≤ n) × (n ≤ 64) }
-    ensures { result ≡ least_for each n }
-{
-    if n == 1 {
-        return each;
-    }
-    let m = pairs_of(n);
-    (n * each).min(m.min((m + 7) / 8 + 1))
-}
-
 // The fewest bytes of a deviation.
 fn shortest_of(mapped: bool) -> usize
     ensures { result ≡ shortest mapped }
 {
     if mapped { 1 } else { 2 }
-}
-
-// The fewest bytes behind the size.
-pub(crate) fn least_behind(told: Told, n: usize) -> usize
-    requires { (1 ≤ n) × (n ≤ 64) }
-    ensures { result ≡ least_behind told n }
-{
-    let two = 2 + least_for(1, n);
-    if !told.mode1 {
-        return two;
-    }
-    (1 + least_for(shortest_of(told.mapped), n)).min(two)
 }
 
 // The fewest bytes of values behind control byte 1.

@@ -1,12 +1,12 @@
 // The first bytes of a matrix pack: the size and the control bytes of either mode.
 ghost use Rattle.std.specs.Prelude.{◌≡◌, true, false, cond, ◌/◌, ◌≤◌, length, get_or};
-ghost use Rattle.matrix.specs.Header.{second, fields_in, fields_of};
+ghost use Rattle.matrix.specs.Header.{first, second, single, fields_in, fields_of};
 ghost use Rattle.matrix.specs.Meaning.{LawfulFirst};
 ghost use Rattle.matrix.specs.Machine.{verdict_of, control1, control2, in_single, in_first};
 ghost use Rattle.matrix.specs.Reached.{verdict_at, verdict_behind};
 ghost use Rattle.matrixhead.specs.Parts.{HeadFrom};
 
-use crate::control::{first_of, least_behind, least_values, second_of, single_of};
+use crate::control::{Size, first_of, least_values, second_of, single_of};
 use crate::judge::{judge_control1, judge_control2, judge_single, judge_size, judged_at};
 use matrix::{Fields, Told};
 use verdict::{Reason, Stop};
@@ -14,10 +14,10 @@ use word::bytes::byte_at;
 
 // From Mode 2's control byte 2 on, behind the size and control byte 1.
 fn from_control2(bytes: &[u8], f: Fields) -> Result<Fields, Stop>
-    requires { (2 ≤ length bytes.now) × (f.mode1 ≡ false) × LawfulFirst f }
+    requires { (f.mode1 ≡ false) × LawfulFirst f }
     ensures { HeadFrom (verdict_at (control2 f) bytes.now 2) (second f (get_or bytes.now 2 0)) bytes.now result }
 {
-    if bytes.len() == 2 {
+    if bytes.len() <= 2 {
         return Err(Stop::Unfinished(1 + least_values(f)));
     }
     let d = byte_at(bytes, 2);
@@ -26,48 +26,48 @@ fn from_control2(bytes: &[u8], f: Fields) -> Result<Fields, Stop>
     Ok(fields)
 }
 
-// Mode 2's control byte 1, which says these fields.
-fn from_first(bytes: &[u8], f: Fields, c: usize) -> Result<Fields, Stop>
-    requires { (2 ≤ length bytes.now) × (f.mode1 ≡ false) × ((1 ≤ f.n) × (f.n ≤ 64)) }
-    ensures { HeadFrom (verdict_behind (in_first f c) bytes.now 2) (second f (get_or bytes.now 2 0)) bytes.now result }
+// Mode 2's control byte 1.
+fn from_first(bytes: &[u8], size: Size, c: usize) -> Result<Fields, Stop>
+    ensures { HeadFrom (verdict_behind (in_first (first size.n c) c) bytes.now 2) (second (first size.n c) (get_or bytes.now 2 0)) bytes.now result }
 {
+    let f = first_of(size.n, c);
     judged_at(judge_control1(f, c), 1)?;
     from_control2(bytes, f)
 }
 
-// Mode 1's control byte, which says these fields.
-fn from_single(bytes: &[u8], f: Fields) -> Result<Fields, Stop>
-    requires { (2 ≤ length bytes.now) × (f.mode1 ≡ true) × ((1 ≤ f.n) × (f.n ≤ 64)) }
-    ensures { HeadFrom (verdict_behind (in_single f) bytes.now 2) f bytes.now result }
+// Mode 1's control byte.
+fn from_single(bytes: &[u8], told: Told, size: Size, c: usize) -> Result<Fields, Stop>
+    requires { 2 ≤ length bytes.now }
+    ensures { HeadFrom (verdict_behind (in_single (single told size.n c)) bytes.now 2) (single told size.n c) bytes.now result }
 {
+    let f = single_of(told, size.n, c);
     judged_at(judge_single(f), 1)?;
     Ok(f)
 }
 
 // A byte behind the size without its top bit: Mode 1's, or refused where that mode is not let in.
-fn from_low(bytes: &[u8], told: Told, n: usize, c: usize) -> Result<Fields, Stop>
-    requires { (2 ≤ length bytes.now) × (c ≡ get_or bytes.now 1 0) × (c / 128 ≡ 0) × ((1 ≤ n) × (n ≤ 64)) }
-    ensures { HeadFrom (verdict_at (control1 told n) bytes.now 1) (fields_in told n (get_or bytes.now 1 0) (get_or bytes.now 2 0)) bytes.now result }
+fn from_low(bytes: &[u8], told: Told, size: Size, c: usize) -> Result<Fields, Stop>
+    requires { (2 ≤ length bytes.now) × (c ≡ get_or bytes.now 1 0) × (c / 128 ≡ 0) }
+    ensures { HeadFrom (verdict_at (control1 told size.n) bytes.now 1) (fields_in told size.n (get_or bytes.now 1 0) (get_or bytes.now 2 0)) bytes.now result }
 {
     if told.mode1 {
-        return from_single(bytes, single_of(told, n, c));
+        return from_single(bytes, told, size, c);
     }
     Err(Stop::Refused(Reason::Mode.at(1)))
 }
 
 // From the byte behind the size on, whose top bit tells the mode.
-fn from_control1(bytes: &[u8], told: Told, n: usize) -> Result<Fields, Stop>
-    requires { (1 ≤ length bytes.now) × ((1 ≤ n) × (n ≤ 64)) }
-    ensures { HeadFrom (verdict_at (control1 told n) bytes.now 1) (fields_in told n (get_or bytes.now 1 0) (get_or bytes.now 2 0)) bytes.now result }
+fn from_control1(bytes: &[u8], told: Told, size: Size) -> Result<Fields, Stop>
+    ensures { HeadFrom (verdict_at (control1 told size.n) bytes.now 1) (fields_in told size.n (get_or bytes.now 1 0) (get_or bytes.now 2 0)) bytes.now result }
 {
-    if bytes.len() == 1 {
-        return Err(Stop::Unfinished(least_behind(told, n)));
+    if bytes.len() <= 1 {
+        return Err(Stop::Unfinished(size.least_behind(told)));
     }
     let c = byte_at(bytes, 1);
     if c / 128 == 0 {
-        return from_low(bytes, told, n, c);
+        return from_low(bytes, told, size, c);
     }
-    from_first(bytes, first_of(n, c), c)
+    from_first(bytes, size, c)
 }
 
 // The fewest bytes of a pack.
@@ -86,5 +86,6 @@ pub(crate) fn header(bytes: &[u8], told: Told) -> Result<Fields, Stop>
     }
     let n = byte_at(bytes, 0);
     judged_at(judge_size(n), 0)?;
-    from_control1(bytes, told, n)
+    let size = Size { n };
+    from_control1(bytes, told, size)
 }

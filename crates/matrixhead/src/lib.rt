@@ -6,7 +6,7 @@ ghost use Rattle.std.specs.Prelude.{◌≡◌};
 ghost use Rattle.matrixhead.specs.Beginning.{begun_of};
 
 use crate::header::header;
-use crate::vector::sent_of;
+use crate::vector::Header;
 use counts::{header_bytes, vector_bytes};
 use matrix::{Fields, Told};
 use verdict::Stop;
@@ -29,7 +29,8 @@ pub fn begin(bytes: &[u8], told: Told) -> Result<Begun, Stop>
     ensures { result ≡ begun_of told bytes.now }
 {
     let fields = header(bytes, told)?;
-    let sent = sent_of(bytes, fields)?;
+    let head = Header { bytes, fields };
+    let sent = head.sent()?;
     Ok(Begun {
         fields,
         words: header_bytes(fields) + vector_bytes(fields),

@@ -61,36 +61,52 @@ fn fewest_of(f: Fields, sent: usize) -> usize
     sent
 }
 
-// The vector behind the header of sparse coefficients.
-fn from_vector(bytes: &[u8], f: Fields) -> Result<usize, Stop>
-    requires { LawfulFields f × (header_bytes f ≤ length bytes.now) × (f.cs ≡ true) }
-    ensures { SentFrom bytes.now f result }
-{
-    let start = header_bytes(f);
-    let count = vector_bytes(f);
-    let there = bytes.len() - start;
-    if there < count {
-        let sent = ones(&bytes[start..]);
-        return Err(Stop::Unfinished(count - there + (f.n * f.slen + fewest_of(f, sent) * f.clen)));
-    }
-    let end = start + count;
-    let sent = ones(&bytes[start..end]);
-    let last = end - 1;
-    let unused = count * 8 - pairs_of(f.n);
-    judged_at(judge_vector(f, sent, byte_at(bytes, last), unused), last)?;
-    Ok(sent)
+// The bytes, and the lawful fields of the header that they begin with.
+#[derive(Clone, Copy)]
+pub(crate) struct Header<'a> {
+    pub bytes: &'a [u8],
+    pub fields: Fields,
+    ghost lawful: { LawfulFields fields },
+    ghost within: { header_bytes fields ≤ length bytes.now },
 }
 
-// From behind the control bytes to the first word: how many coefficients are sent, or why that is not known.
-pub(crate) fn sent_of(bytes: &[u8], f: Fields) -> Result<usize, Stop>
-    requires { LawfulFields f × (header_bytes f ≤ length bytes.now) }
-    ensures { SentFrom bytes.now f result }
-{
-    if f.cs {
-        return from_vector(bytes, f);
+impl<'a> Header<'a> {
+    // The vector behind the header of sparse coefficients.
+    fn from_vector(self) -> Result<usize, Stop>
+        requires { self.fields.cs ≡ true }
+        ensures { SentFrom self.entry.bytes.now self.entry.fields result }
+    {
+        let f = self.fields;
+        let start = header_bytes(f);
+        let count = vector_bytes(f);
+        let there = self.bytes.len() - start;
+        if there < count {
+            let sent = ones(&self.bytes[start..]);
+            return Err(Stop::Unfinished(
+                count - there + (f.n * f.slen + fewest_of(f, sent) * f.clen),
+            ));
+        }
+        let end = start + count;
+        let sent = ones(&self.bytes[start..end]);
+        let last = end - 1;
+        let unused = count * 8 - pairs_of(f.n);
+        judged_at(
+            judge_vector(f, sent, byte_at(self.bytes, last), unused),
+            last,
+        )?;
+        Ok(sent)
     }
-    if f.clen == 0 {
-        return Ok(0);
+
+    // From behind the control bytes to the first word: how many coefficients are sent, or why that is not known.
+    pub(crate) fn sent(self) -> Result<usize, Stop>
+        ensures { SentFrom self.entry.bytes.now self.entry.fields result }
+    {
+        if self.fields.cs {
+            return self.from_vector();
+        }
+        if self.fields.clen == 0 {
+            return Ok(0);
+        }
+        Ok(pairs_of(self.fields.n))
     }
-    Ok(pairs_of(f.n))
 }

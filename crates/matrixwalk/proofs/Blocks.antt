@@ -5,11 +5,12 @@ use mathlib.Core.List.{List, ◌++◌}
 use native.Mathlib.Nat.{zero-mul, suc-mul, add-mul, mul_assoc, mul_comm, mul-sub, mul-le-mul_right, mul-lt-mul_of_pos_right, lt_of_mul-lt-mul_right, div-add-mod', mod-lt}
 use native.Mathlib.Omega.{arith}
 use borrow.Author.Tests.{ltb-true, ltb-false, eqb-true, eqb-false}
+use lib.Bits.{bit_and}
 use lib.Dec.{eqb, ltb}
-use lib.ListN.{length, take, drop, get_or, set, length-set, length-append, get_or-append}
-use lib.Seq.{length-take-le, get_or-take, get_or-set_same, get_or-set_other}
+use lib.ListN.{length, take, drop, get_or, set, length-set, length-append, length-drop, get_or-append}
+use lib.Seq.{length-take-le, get_or-take, get_or-drop, get_or-set_same, get_or-set_other}
 use Rattle.verdict.proofs.Cases.{either}
-use Rattle.matrixwalk.specs.Parts.{FirstsBelow, Raised, BlocksUnder}
+use Rattle.matrixwalk.specs.Parts.{FirstsBelow, TwosUnder, Raised, BlocksUnder}
 
 -- ---- words one after another
 
@@ -41,6 +42,41 @@ module _ (bytes : List ℕ) (until n limit : ℕ) where
       let e : place + k * n ≡ middle + (k - words) * n =
       omega (arith, ltb-false (place + k * n) middle t, mul-sub n k words, mul_comm n (k - words), mul_comm n k, mul_comm n words) in
       rw e (g (k - words) (omega arith)))
+
+-- the same of the first two bytes
+module _ (bytes : List ℕ) (until n mask most : ℕ) (at : ℕ) where
+  abbrev two : ℕ → ℕ
+  two i = bit_and (get_or bytes i 0 * 256 + get_or bytes (i + 1) 0) mask
+
+  pub twos_more : at + 1 < until → two at ≤ most → TwosUnder bytes (at + n) until n mask most → TwosUnder bytes at until n mask most
+  twos_more h l f zero i = rw (first bytes until n mask at) (h, l)
+  twos_more h l f (suc k) i = rw (next bytes until n mask at k) (f k (omega (arith, next bytes until n mask at k)))
+
+  pub twos_first : at < until → TwosUnder bytes at until n mask most → (at + 1 < until) × (two at ≤ most)
+  twos_first l f = rw (first bytes until n mask at) at (f 0 (omega (arith, first bytes until n mask at)))
+
+  pub twos_behind : TwosUnder bytes at until n mask most → TwosUnder bytes (at + n) until n mask most
+  twos_behind f k l = rw (next bytes until n mask at k) at (f (suc k) (omega (arith, next bytes until n mask at k)))
+
+-- words of a part of the bytes are words of the bytes
+module _ (bytes : List ℕ) (place until n : ℕ) (within : until ≤ length bytes) where
+  abbrev part : List ℕ
+  part = take (until - place) (drop place bytes)
+
+  part_length : length part ≡ until - place
+  part_length = length-take-le (until - place) (drop place bytes) (rw length-drop (omega arith))
+
+  part_at : (i j : ℕ) → i < until - place → j ≡ place + i → get_or part i 0 ≡ get_or bytes j 0
+  part_at i j h e = rw e (get_or-take (until - place) (drop place bytes) i 0 h ∙ get_or-drop place bytes i 0)
+
+  pub firsts_part : (limit : ℕ) → FirstsBelow part 0 (length part) n limit → FirstsBelow bytes place until n limit
+  firsts_part limit f k l = rw (part_at (0 + k * n) (place + k * n) (omega arith) (omega arith)) at (f k (omega (arith, part_length)))
+
+  pub twos_part : (mask most : ℕ) → TwosUnder part 0 (length part) n mask most → TwosUnder bytes place until n mask most
+  twos_part mask most f k l =
+      let t = f k (omega (arith, part_length)) in
+      let h : place + k * n + 1 < until = omega (arith, part_length, t.0) in
+      (h, rw (part_at (0 + k * n) (place + k * n) (omega arith) (omega arith), part_at (0 + k * n + 1) (place + k * n + 1) (omega arith) (omega arith)) at t.1)
 
 -- ---- the greatest byte of each place
 
@@ -76,22 +112,22 @@ module _ (bytes : List ℕ) (at : ℕ) (most₀ : List ℕ) where
 -- ---- blocks
 
 -- no byte of so many blocks is above the entry for its place
-pub record Covers (bytes : List ℕ) (place size blocks : ℕ) (most : List ℕ) : Type 0 where
+pub record Covers (bytes : List ℕ) (size blocks : ℕ) (most : List ℕ) : Type 0 where
   pub room : size ≤ length most
-  pub under : BlocksUnder bytes place blocks size most
+  pub under : BlocksUnder bytes blocks size most
 
-module _ (bytes : List ℕ) (place : ℕ) where
+module _ (bytes : List ℕ) where
   module _ (size : ℕ) where
-    pub covers_none : (most : List ℕ) → size ≤ length most → Covers bytes place size 0 most
+    pub covers_none : (most : List ℕ) → size ≤ length most → Covers bytes size 0 most
     covers_none most h = record { room = h; under = λ b i l. absurd (omega arith) }
 
     -- where more are to come, the next is there
-    pub covers_next : (blocks all : ℕ) → blocks < all → place + all * size ≤ length bytes → place + blocks * size + size ≤ length bytes
+    pub covers_next : (blocks all : ℕ) → blocks < all → all * size ≤ length bytes → blocks * size + size ≤ length bytes
     covers_next blocks all h l = omega (arith, suc-mul blocks size, mul-le-mul_right size h)
 
-    module _ (blocks : ℕ) (most : List ℕ) (c : Covers bytes place size blocks most) where
+    module _ (blocks : ℕ) (most : List ℕ) (c : Covers bytes size blocks most) where
       -- and then the entries are raised by it
-      pub covers_more : (part : List ℕ) → Raised bytes (place + blocks * size) (take size most) part → Covers bytes place size (blocks + 1) (part ++ drop size most)
+      pub covers_more : (part : List ℕ) → Raised bytes (blocks * size) (take size most) part → Covers bytes size (blocks + 1) (part ++ drop size most)
       covers_more part r =
           let k : length part ≡ size = r.same_length ∙ length-take-le size most c.room in
           record {
@@ -102,13 +138,13 @@ module _ (bytes : List ℕ) (place : ℕ) where
           }
 
   -- where the greatest bytes of the places at which words begin are below a limit, each word of the blocks begins below it
-  pub under_firsts : (blocks n limit : ℕ) (most : List ℕ) → 1 ≤ n → BlocksUnder bytes place blocks (16 * n) most → FirstsBelow most 0 (16 * n) n limit → FirstsBelow bytes place (place + blocks * (16 * n)) n limit
-  under_firsts blocks n limit most some u f k l =
+  pub under_firsts : (blocks n limit : ℕ) (most : List ℕ) → 1 ≤ n → 16 * n ≤ length most → BlocksUnder bytes blocks (16 * n) most → FirstsBelow (take (16 * n) most) 0 (length (take (16 * n) most)) n limit → FirstsBelow bytes 0 (blocks * (16 * n)) n limit
+  under_firsts blocks n limit most some room u f k l =
       let b = k / 16 in
       let r = k % 16 in
       let e : k * n ≡ b * (16 * n) + r * n = ap (λ (j : ℕ). j * n) (sym (div-add-mod' k 16)) ∙ add-mul (b * 16) r n ∙ ap (λ (j : ℕ). j + r * n) (mul_assoc b 16 n) in
       let whole : b < blocks = lt_of_mul-lt-mul_right (16 * n) (omega (arith, e)) in
       let inside : r * n < 16 * n = mul-lt-mul_of_pos_right {m = r} {n = 16} {k = n} (mod-lt k (omega arith)) some in
-      let g : place + k * n ≡ place + b * (16 * n) + r * n = omega (arith, e) in
+      let g : 0 + k * n ≡ b * (16 * n) + r * n = omega (arith, e) in
       let z : 0 + r * n ≡ r * n = omega arith in
-      rw g (omega (arith, u b (r * n) whole inside, rw z at (f r (omega arith))))
+      rw g (omega (arith, u b (r * n) whole inside, get_or-take (16 * n) most (r * n) 0 inside, rw z at (f r (omega (arith, length-take-le (16 * n) most room)))))

@@ -3,7 +3,7 @@ use Prim.Native.Nat.{ℕ, zero, suc, ◌+◌, ◌-◌, ◌*◌, ◌/◌, ◌%◌
 use mathlib.Core.Path.{◌≡◌, refl, sym, ap, ◌∙◌, subst}
 use mathlib.Core.List.{List, ◌∷◌}
 use mathlib.Core.Logic.{⊎_elim}
-use native.Mathlib.Nat.{add-sub_cancel, suc-mul, zero-mul, mul-zero, mod-eq_of_lt, zero-div, pow-suc, one-le-pow, div-lt_iff_lt-mul, le-div_iff_mul-le, div-add-mod'}
+use native.Mathlib.Nat.{add-sub_cancel, suc-mul, zero-mul, mul-zero, mod-eq_of_lt, zero-div, pow-suc, one-le-pow, le-div_iff_mul-le, div-add-mod'}
 use native.Mathlib.Omega.{arith}
 use borrow.Author.Tests.{lt-ltb, le-ltb, eq-eqb, ne_eqb, leb-true, leb-false, ltb-true, ltb-false}
 use lib.Bits.{bit_and, and_mask}
@@ -28,8 +28,8 @@ use Rattle.matrix.specs.Machine.{State, word, Run, enter, enter_word, in_word, r
 use Rattle.matrix.specs.Reached.{verdict_at, verdict_behind}
 use Rattle.std.specs.Prelude.{Err}
 use Rattle.verdict.specs.declared.Stop.TheVariants.{Unfinished as StopUnfinished, Refused as StopRefused}
-use Rattle.matrixwalk.specs.Parts.{mask_of, over_at, word_of, run_of, LookedAt, Judges, Checks, FirstsBelow, PassedTo, PassedFrom}
-use Rattle.matrixwalk.proofs.Blocks.{firsts_first, firsts_behind}
+use Rattle.matrixwalk.specs.Parts.{mask_of, over_at, word_of, run_of, LookedAt, Judges, Checks, FirstsBelow, TwosUnder, PassedTo, PassedFrom}
+use Rattle.matrixwalk.proofs.Blocks.{firsts_first, firsts_behind, twos_first, twos_behind}
 use Rattle.matrix.proofs.Fronts.{cleared_none, run_empty}
 use Rattle.matrix.proofs.Keeping.{first_sign}
 
@@ -123,9 +123,6 @@ module _ (rule : Rule) (sound : Sound rule) (two : 2 ≤ rule.length) where
 
   pub two_room : rule.greatest < 65536 * rest
   two_room = omega (arith, sound.room, whole)
-
-  pub two_limit : rule.greatest / rest < 65536
-  two_limit = (div-lt_iff_lt-mul (one-le-pow (rule.length - 2) 256 (omega arith))).1 two_room
 
   pub sign_room : rule.sign - 1 < 65536 * rest
   sign_room = let p = one-le-pow (rule.length - 2) 256 (omega arith) in ⊎_elim (λ z. omega arith) (λ h. omega (arith, h.0, whole)) sound.signed
@@ -372,10 +369,8 @@ module _ (rule : Rule) (some : 1 ≤ rule.length) where
 
     module _ (place at : ℕ) (c : Carries bytes place until rule at) where
       -- past a word that breaks nothing
-      pub carries_next : (n : ℕ) → rule.length ≡ n → at < until → Judges bytes at until rule until → Carries bytes place until rule (at + n)
-      carries_next n long inside judged =
-          subst (λ (more : ℕ). Carries bytes place until rule (at + more)) long
-          (λ h broken k. c.0 (omega arith) broken (checks_next at inside judged h broken k), λ h. c.0 (omega arith) until (checks_cut at inside judged h))
+      pub carries_next : at < until → Judges bytes at until rule until → Carries bytes place until rule (at + rule.length)
+      carries_next inside judged = (λ h broken k. c.0 (omega arith) broken (checks_next at inside judged h broken k), λ h. c.0 (omega arith) until (checks_cut at inside judged h))
 
       pub carries_all : until ≤ at → Checks bytes place until rule until
       carries_all h =
@@ -392,11 +387,28 @@ module _ (rule : Rule) (sound : Sound rule) (some : 1 ≤ rule.length) (plain : 
       let b = get_or bytes at 0 in
       let judged : Judges bytes at until rule until =
       first_below bytes at until rule (record { some = some; before = inside; within = within }) b (unsigned rule sound some plain b) below (omega (arith, firsts_first bytes until rule.length limit at inside f)) in
-      firsts_from left (at + rule.length) (omega arith) (carries_next rule some bytes until place at c rule.length refl inside judged) (firsts_behind bytes until rule.length limit at f))
+      firsts_from left (at + rule.length) (omega arith) (carries_next rule some bytes until place at c inside judged) (firsts_behind bytes until rule.length limit at f))
       (λ t. carries_all rule some bytes until place at c (ltb-false at until t))
 
   pub firsts_settle : place ≤ until → FirstsBelow bytes place until rule.length limit → Checks bytes place until rule until
   firsts_settle h f = firsts_from until place (omega arith) (carries_start bytes place until rule h) f
+
+-- nor where what counts of its first two bytes is below the limit's
+module _ (rule : Rule) (sound : Sound rule) (two : 2 ≤ rule.length) (bytes : List ℕ) (below : Below 256 bytes) (place until mask most : ℕ) (within : until ≤ length bytes) (is : mask ≡ mask_of rule * 256 + 255) (under : most < rule.greatest / 256 ^ (rule.length - 2)) where
+  twos_from : (left at : ℕ) → until ≤ at + left → Carries bytes place until rule at → TwosUnder bytes at until rule.length mask most → Checks bytes place until rule until
+  twos_from zero at h c f = carries_all rule (omega arith) bytes until place at c (omega arith)
+  twos_from (suc left) at h c f =
+      either (ltb at until)
+      (λ t. let inside = ltb-true at until t in
+      let first = twos_first bytes until rule.length mask most at inside f in
+      let judged : Judges bytes at until rule until =
+      two_below bytes at until rule (record { some = omega arith; before = inside; within = within }) two first.0 below sound (bit_and (get_or bytes at 0 * 256 + get_or bytes (at + 1) 0) mask)
+      (ap (bit_and (get_or bytes at 0 * 256 + get_or bytes (at + 1) 0)) is) (omega (arith, first.1)) in
+      twos_from left (at + rule.length) (omega arith) (carries_next rule (omega arith) bytes until place at c inside judged) (twos_behind bytes until rule.length mask most at f))
+      (λ t. carries_all rule (omega arith) bytes until place at c (ltb-false at until t))
+
+  pub twos_settle : place ≤ until → TwosUnder bytes place until rule.length mask most → Checks bytes place until rule until
+  twos_settle h f = twos_from until place (omega arith) (carries_start bytes place until rule h) f
 
 -- ---- some words, and no others
 

@@ -1,13 +1,13 @@
 -- For private functions alone: what each part of the walk promises, that its answer is the run's from where it stands.
 use Rattle.std.specs.Prelude.{ℕ, ◌+◌, ◌-◌, ◌*◌, ◌/◌, ◌^◌, ◌≤◌, ◌<◌, ◌≡◌, cond, List, [], ◌∷◌, length, get_or, eqb, Result, Ok, Err}
+use Rattle.std.specs.Int.Bits.{bit_and}
 use Rattle.verdict.specs.declared.Stop.{Stop}
 use Rattle.verdict.specs.Answers.{stopped}
 use Rattle.verdict.specs.declared.Reason.TheVariants.{ValueRange}
 use Rattle.verdict.specs.declared.Verdict.{Verdict}
 use Rattle.verdict.specs.declared.Verdict.TheVariants.{Complete, Unfinished, Refused}
 use Rattle.rule.specs.declared.rules.Rule.{Rule}
-use Rattle.rule.specs.Rules.{rule_of_coefficients}
-use Rattle.rule.specs.Sound.{Sound}
+use Rattle.rule.specs.Rules.{cleared, rule_of_coefficients}
 use Rattle.matrix.specs.declared.Fields.{Fields}
 use Rattle.matrixwalk.specs.declared.Found.{Found}
 use Rattle.matrix.specs.Meaning.{LawfulFields}
@@ -33,6 +33,10 @@ pub record LookedAt (bytes : List ℕ) (place until : ℕ) (rule : Rule) : Type 
   pub before : place < until
   pub within : until ≤ length bytes
 
+-- the first byte of a word is its limit's
+abbrev pub TightAt : List ℕ → ℕ → Rule → Type 0
+TightAt bytes place rule = cleared (rule.sign / 256 ^ (rule.length - 1)) (get_or bytes place 0) ≡ rule.greatest / 256 ^ (rule.length - 1)
+
 -- up to `until` a word breaks its rule at a byte, or nowhere
 pub record Judges (bytes : List ℕ) (place until : ℕ) (rule : Rule) (broken : ℕ) : Type 0 where
   pub within : broken ≤ until
@@ -43,12 +47,6 @@ pub record Judges (bytes : List ℕ) (place until : ℕ) (rule : Rule) (broken :
 
 abbrev pub run_of : Rule → ℕ → Run
 run_of rule count = record { rule = rule; count = count }
-
--- words of a rule begin at a place, and are looked at up to another
-pub record Checkable (bytes : List ℕ) (place until : ℕ) (rule : Rule) : Type 0 where
-  pub some : 1 ≤ rule.length
-  pub forward : place ≤ until
-  pub within : until ≤ length bytes
 
 -- up to `until` some words of a rule break it at a byte, or nowhere
 pub record Checks (bytes : List ℕ) (place until : ℕ) (rule : Rule) (broken : ℕ) : Type 0 where
@@ -68,14 +66,14 @@ pub record Raised (bytes : List ℕ) (at : ℕ) (most₀ most : List ℕ) : Type
   pub kept : (i : ℕ) → get_or most₀ i 0 ≤ get_or most i 0
   pub above : (i : ℕ) → i < length most₀ → get_or bytes (at + i) 0 ≤ get_or most i 0
 
--- no byte of the blocks of so many bytes is above the entry for its place in the block
-abbrev pub BlocksUnder : List ℕ → ℕ → ℕ → ℕ → List ℕ → Type 0
-BlocksUnder bytes place blocks size most = (b i : ℕ) → b < blocks → i < size → get_or bytes (place + b * size + i) 0 ≤ get_or most i 0
+-- no byte of so many blocks of so many bytes is above the entry for its place in the block
+abbrev pub BlocksUnder : List ℕ → ℕ → ℕ → List ℕ → Type 0
+BlocksUnder bytes blocks size most = (b i : ℕ) → b < blocks → i < size → get_or bytes (b * size + i) 0 ≤ get_or most i 0
 
--- no word of any rule breaks it up to `until` whose greatest word begins higher than this with two bytes, of which so much counts
-abbrev pub SettledByTwo : List ℕ → ℕ → ℕ → ℕ → ℕ → ℕ → Type 0
-SettledByTwo bytes place until n mask most =
-    (rule : Rule) → Sound rule → rule.length ≡ n → mask ≡ mask_of rule * 256 + 255 → most < rule.greatest / 256 ^ (rule.length - 2) → Checks bytes place until rule until
+-- each word of n bytes up to `until` has two bytes before that, and what counts of them is no more than this
+abbrev pub TwosUnder : List ℕ → ℕ → ℕ → ℕ → ℕ → ℕ → Type 0
+TwosUnder bytes place until n mask most =
+    (k : ℕ) → place + k * n < until → (place + k * n + 1 < until) × (bit_and (get_or bytes (place + k * n) 0 * 256 + get_or bytes (place + k * n + 1) 0) mask ≤ most)
 
 -- past some words, with so many bytes of words behind them
 pub record PassedTo (bytes : List ℕ) (place count : ℕ) (rule : Rule) (after next : ℕ) : Type 0 where

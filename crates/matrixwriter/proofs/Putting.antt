@@ -3,9 +3,11 @@ use Prim.Native.Nat.{ℕ, suc, ◌+◌, ◌-◌, ◌*◌, ◌^◌, ◌≤◌, �
 use mathlib.Core.Path.{◌≡◌, sym, ap, ◌∙◌, subst}
 use mathlib.Core.Bool.{true, false}
 use mathlib.Core.List.{List, [], ◌∷◌, ◌++◌}
-use native.Mathlib.Nat.{zero-mul}
+use native.Mathlib.Nat.{one-mul, zero-mul}
 use native.Mathlib.Numerals.{add-one}
 use native.Mathlib.Omega.{arith}
+use Rattle.std.proofs.Common.{subst₂}
+use Rattle.std.proofs.lemmas.List.{drop_more}
 use borrow.Rule.Slice.PartMut.{put_mid, Post-is}
 use lib.ListN.{length, take, drop, get_or, set, replicate, length-drop}
 use lib.Seq.{length-take-le}
@@ -31,6 +33,13 @@ use Rattle.matrixwriter.proofs.Spelled.{spelled_none, all_spelled, full_spelled,
 pub unsent_put : (out : List ℕ) (place size mark word : ℕ) → mark ≡ 0 → out ≡ put out place (digits 256 (mark * size) word)
 unfolding digits
 unsent_put out place size mark word e = rw (e, zero-mul size) (sym (put_none out place))
+
+-- a word whose mark is 1 has its bytes
+pub sent_room : (size mark : ℕ) → mark ≡ 1 → mark * size ≡ size
+sent_room size mark e = rw (e, one-mul size)
+
+pub sent_put : (out : List ℕ) (place size mark word : ℕ) (out' : List ℕ) → mark ≡ 1 → out' ≡ put out place (digits 256 size word) → out' ≡ put out place (digits 256 (mark * size) word)
+sent_put out place size mark word out' e p = rw (sent_room size mark e) p
 
 pub single_put : (f : Fields) (out : List ℕ) (a : ℕ) → f.mode1 ≡ true → a ≡ control f → header_bytes f ≤ length out → set (set out 0 f.n) 1 a ≡ put out 0 (header_of f)
 single_put f out a one e h = rw (e, header_single f one) (put_two out 0 f.n (control f) (omega (arith, header_one f one)))
@@ -92,6 +101,11 @@ module _ (size : ℕ) (target out : List ℕ) (at mark word : ℕ) (marks words 
             (subst (λ (k : ℕ). put (put out at (digits 256 (mark * size) word)) (at + k) (spelled size marks words) ≡ target) (length_digits 256 (mark * size) word)
             (put_put out at (digits 256 (mark * size) word) (spelled size marks words) (omega (arith, next_room, length_digits 256 (mark * size) word)) ∙ before.ahead));
       }
+
+-- the one at a place, and those behind it
+pub sent_here : (size : ℕ) (target out : List ℕ) (at : ℕ) (marks words : List ℕ) (i : ℕ) → length words ≡ length marks → i < length marks
+    → SentAhead size target out at (drop i marks) (drop i words) → SentAhead size target out at (get_or marks i 0 ∷ drop (i + 1) marks) (get_or words i 0 ∷ drop (i + 1) words)
+sent_here size target out at marks words i l h = subst₂ (SentAhead size target out at) (drop_more marks i 0 h) (drop_more words i 0 (omega arith))
 
 -- and the last one was put
 pub all_put : (size : ℕ) (target out : List ℕ) (at : ℕ) (marks words : List ℕ) → SentAhead size target out at marks words → length marks ≡ 0 → out ≡ target

@@ -17,15 +17,7 @@ use word::bytes::byte_at;
 use wordwriter::bytes::write_at;
 use wordwriter::many::write_all;
 
-// A word in so many bytes at a place.
-fn put_word(out: &mut [u8], place: usize, length: usize, word: u64)
-    requires { (length ≤ 8) × ((word < 256 ^ length) × (place + length ≤ count out.old)) }
-    ensures { out.new ≡ put out.old place (digits 256 length word) }
-{
-    let _ = write_at(out, place, length, word);
-}
-
-// A word at a place if its mark is 1.
+// A word in so many bytes at a place, if its mark is 1.
 fn put_sent(out: &mut [u8], place: usize, length: usize, mark: u8, word: u64)
     requires { (length ≤ 8) × ((mark ≤ 1) × ((mark ≡ 1 → word < 256 ^ length) × (place + mark * length ≤ count out.old))) }
     ensures { out.new ≡ put out.old place (digits 256 (mark * length) word) }
@@ -33,41 +25,24 @@ fn put_sent(out: &mut [u8], place: usize, length: usize, mark: u8, word: u64)
     if mark == 0 {
         return;
     }
-    put_word(out, place, length, word);
+    let _ = write_at(out, place, length, word);
 }
 
-// The size and Mode 1's control byte.
-fn put_single(f: Fields, out: &mut [u8])
-    requires { LawfulFields f × ((f.mode1 ≡ true) × (header_bytes f ≤ count out.old)) }
-    ensures { out.new ≡ put out.old 0 (header_of f) }
-{
-    let control = f.slen * 16 + (bit_of(f.cs) * 8 + f.clen);
-    out[0] = f.n as u8;
-    out[1] = control as u8;
-}
-
-// The size and Mode 2's control bytes.
-fn put_double(f: Fields, out: &mut [u8])
-    requires { LawfulFields f × ((f.mode1 ≡ false) × (header_bytes f ≤ count out.old)) }
-    ensures { out.new ≡ put out.old 0 (header_of f) }
-{
-    let coefficients = 128 + (bit_of(f.cs) * 32 + (bit_of(f.cf) * 16 + f.clen));
-    let deviations = bit_of(f.sf) * 16 + f.slen;
-    out[0] = f.n as u8;
-    out[1] = coefficients as u8;
-    out[2] = deviations as u8;
-}
-
-// The size and the control bytes.
+// The size, and one control byte of Mode 1 or two of Mode 2.
 fn put_header(f: Fields, out: &mut [u8])
     requires { LawfulFields f × (header_bytes f ≤ count out.old) }
     ensures { out.new ≡ put out.old 0 (header_of f) }
 {
+    out[0] = f.n as u8;
     if f.mode1 {
-        put_single(f, out);
+        let control = f.slen * 16 + (bit_of(f.cs) * 8 + f.clen);
+        out[1] = control as u8;
         return;
     }
-    put_double(f, out);
+    let coefficients = 128 + (bit_of(f.cs) * 32 + (bit_of(f.cf) * 16 + f.clen));
+    let deviations = bit_of(f.sf) * 16 + f.slen;
+    out[1] = coefficients as u8;
+    out[2] = deviations as u8;
 }
 
 // Eight marks from a pair on as a byte, the first in its top bit; 0 where there are no more.
@@ -107,9 +82,9 @@ fn put_sent_words(out: &mut [u8], place: usize, length: usize, words: &[u64], ma
     ensures { out.new ≡ put out.old place (spelled length marks.now words.now) }
 {
     let mut at = place;
-    for (mark, word) in marks.iter().zip(words) {
-        put_sent(out, at, length, *mark, *word);
-        at += *mark as usize * length;
+    for (i, &mark) in marks.iter().enumerate() {
+        put_sent(out, at, length, mark, words[i]);
+        at += mark as usize * length;
     }
 }
 

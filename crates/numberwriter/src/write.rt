@@ -12,6 +12,7 @@ pub fn count_of(value: u64) -> usize
 {
     let mut count: usize = 1;
     let mut rest = value / 128;
+    // how often is found by dividing: no index is counted
     while 0 < rest {
         count += 1;
         rest /= 128;

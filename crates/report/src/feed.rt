@@ -103,6 +103,7 @@ pub fn feed(state: State, chunk: &[u8], line: &mut [u8], out: &mut [u8]) -> Resu
         written: 0,
     };
     let mut at = keep_piece(begun, chunk, line);
+    // a turn passes a whole line, whose length is found in it
     while at.taken < chunk.len() && ROOM <= out.len() - at.written {
         let closed = close(at, line, &mut bytes, out);
         at = keep_piece(closed, chunk, line);

@@ -1,14 +1,14 @@
-// Runs rows of bytes through the calls that C has and says what each gives: the verdict on "S HEX", a matrix pack, and "M HEX", an array pack
-// ("s HEX", "m HEX": on every beginning too); "A HEX COUNT INDEX ..": an array pack of these bytes and so many of 0, read and addressed.
-// "U HEX D C M" a matrix pack unpacked into lists of these lengths, "E HEX W M" expanded, "C HEX" its scaled coefficients.
-// "R HEX" a matrix pack and "Q HEX" an array pack, read and written again. "W HEX" writes the matrix and "X HEX" the array that these bytes give.
-// A star in place of the space states mapped deviations for Mode 1, a space IEEE ones.
+// A program that runs rows of bytes through the calls that C has and says what each gives.
+// A row is the letter of what it asks (kind.rt), a space, its bytes in hexadecimal, and decimal numbers, each behind a space.
+// A star in place of the first space states mapped deviations for Mode 1, a space IEEE ones.
 #![tactic(auto)]
 
 ghost use Rattle.std.specs.Prelude.{◌≤◌, ◌<◌, IfSome};
 
+use kind::{Kind, Pack};
 use std::io::{Read, Stdin, Stdout};
 
+mod kind;
 mod reads;
 mod say;
 mod scales;
@@ -83,63 +83,62 @@ impl Given {
 }
 
 // How many bytes of 0 stand behind those that the text spells.
-fn zeros(kind: u8, given: &Given) -> usize
+fn zeros(kind: Kind, given: &Given) -> usize
     ensures { result ≤ 65536 }
 {
     match kind {
-        b'A' | b'P' => given.values[0].min(65536),
+        Kind::Address | Kind::Frame => given.values[0].min(65536),
         _ => 0,
     }
 }
 
-// What a row of this kind gives under a stated format; its text is said before.
-fn say_row(to: Stdout, kind: u8, format: usize, bytes: &[u8], given: &Given) {
+// What is said of a row before what it gives: its text, but of what is written again the letter alone, with its star.
+fn say_asked(to: Stdout, kind: Kind, format: usize, text: &[u8]) {
     match kind {
-        b'A' => reads::address_row(to, bytes, given),
-        b'C' => scales::pack_row(to, format, bytes),
-        b'E' => reads::expand_row(to, format, bytes, given),
-        b'K' => scales::words_row(to, bytes, given),
-        b'P' => reads::frame_row(to, bytes),
-        b'U' => reads::unpack_row(to, format, bytes, given),
-        b'W' => writes::matrix_row(to, format, bytes),
-        b'X' => writes::array_row(to, bytes),
-        _ => say::say_answer(to, reads::verdict_on(kind, format, bytes)),
+        Kind::Again(_) => {
+            say::put(to, kind.into());
+            if format == 1 {
+                say::put(to, b'*');
+            }
+        }
+        _ => say::write(to, text),
     }
 }
 
-// The text of a row is said too, but not of what is written again.
-fn texted_row(to: Stdout, kind: u8, format: usize, text: &[u8], bytes: &[u8], given: &Given) {
-    if kind > b'Z' {
-        reads::beginnings(to, kind, format, bytes);
+// What a row of this kind gives under a stated format.
+fn say_given(to: Stdout, kind: Kind, format: usize, bytes: &[u8], given: &Given) {
+    match kind {
+        Kind::Verdict(pack) | Kind::Beginnings(pack) => {
+            say::say_answer(to, reads::verdict_on(pack, format, bytes))
+        }
+        Kind::Address => reads::address_row(to, bytes, given),
+        Kind::Frame => reads::frame_row(to, bytes),
+        Kind::Unpack => reads::unpack_row(to, format, bytes, given),
+        Kind::Expand => reads::expand_row(to, format, bytes, given),
+        Kind::ScalePack => scales::pack_row(to, format, bytes),
+        Kind::ScaleWords => scales::words_row(to, bytes, given),
+        Kind::Again(pack) => writes::again_row(to, pack, format, bytes),
+        Kind::Write(Pack::Matrix) => writes::matrix_row(to, format, bytes),
+        Kind::Write(Pack::Array) => writes::array_row(to, bytes),
     }
-    say::write(to, text);
-    say::put(to, b' ');
-    say_row(to, kind, format, bytes, given);
-    say::put(to, b'\n');
-}
-
-// A pack that is written again: its letter, with its star.
-fn written_row(to: Stdout, kind: u8, format: usize, bytes: &[u8]) {
-    say::put(to, kind);
-    if format == 1 {
-        say::put(to, b'*');
-    }
-    writes::again_row(to, kind, format, bytes);
 }
 
 // A row: its letter, a space or a star (the format that it states, 1), its bytes, its numbers.
 fn row(to: Stdout, text: &[u8]) {
     let mut bytes = [0u8; 65536];
     let n = decode(text, &mut bytes);
-    let kind = text.first().copied().unwrap_or(0);
+    let letter = text.first().copied().unwrap_or(0);
+    let kind = Kind::try_from(letter).unwrap_or_else(Kind::from);
     let format = usize::from(text.get(1) == Some(&b'*'));
-    if kind == b'Q' || kind == b'R' {
-        written_row(to, kind, format, &bytes[..n]);
-        return;
-    }
     let given = Given::new(text.get(2 + 2 * n..).unwrap_or(&[]));
     let end = (n + zeros(kind, &given)).min(65536);
-    texted_row(to, kind, format, text, &bytes[..end], &given);
+    if let Kind::Beginnings(pack) = kind {
+        reads::beginnings(to, pack, format, &bytes[..end]);
+    }
+    say_asked(to, kind, format, text);
+    say::put(to, b' ');
+    say_given(to, kind, format, &bytes[..end], &given);
+    say::put(to, b'\n');
 }
 
 // The next character of the input.

@@ -2,24 +2,25 @@
 ghost use Rattle.std.specs.Prelude.{◌≤◌};
 
 use crate::Given;
+use crate::kind::Pack;
 use crate::say::{
     CANARY, CANARY_BYTE, UNFINISHED, kept, put, say, say_answer, say_begun, say_kept, say_list,
 };
 use std::io::Stdout;
 use word::bytes::byte_at;
 
-// The verdict on bytes as a pack of a row's kind, under a stated format.
-pub(crate) fn verdict_on(kind: u8, format: usize, bytes: &[u8]) -> u64 {
-    match kind {
-        b'M' | b'm' => carray::array_verdict(bytes),
-        _ => cmatrix::matrix_verdict(bytes, format),
+// The verdict on bytes as a pack, under a stated format.
+pub(crate) fn verdict_on(pack: Pack, format: usize, bytes: &[u8]) -> u64 {
+    match pack {
+        Pack::Matrix => cmatrix::matrix_verdict(bytes, format),
+        Pack::Array => carray::array_verdict(bytes),
     }
 }
 
 // Every beginning of the bytes, by its count.
-pub(crate) fn beginnings(to: Stdout, kind: u8, format: usize, bytes: &[u8]) {
+pub(crate) fn beginnings(to: Stdout, pack: Pack, format: usize, bytes: &[u8]) {
     for k in 0..bytes.len() {
-        say_begun(to, k, verdict_on(kind, format, &bytes[..k]));
+        say_begun(to, k, verdict_on(pack, format, &bytes[..k]));
     }
 }
 
@@ -134,9 +135,9 @@ pub(crate) fn expand_row(to: Stdout, format: usize, bytes: &[u8], given: &Given)
 
 // What is said of the frame of these bytes, behind the letter of its kind.
 pub(crate) fn frame_row(to: Stdout, bytes: &[u8]) {
-    let mut kind: u8 = 0;
-    let answer = cframe::frame_verdict(bytes, &mut kind);
-    put(to, kind);
+    let mut letter = 0;
+    let answer = cframe::frame_verdict(bytes, &mut letter);
+    put(to, letter);
     put(to, b' ');
     say_answer(to, answer);
 }

@@ -18,7 +18,7 @@ pub(crate) fn write(to: Stdout, text: &[u8]) {
 }
 
 // A number's decimal digits.
-fn say_decimal<T: Display + Drop>(to: Stdout, number: T) {
+pub(crate) fn say_decimal<T: Display + Drop>(to: Stdout, number: T) {
     let _ = to.print(number);
 }
 
@@ -28,7 +28,7 @@ pub(crate) fn put(to: Stdout, c: u8) {
 }
 
 // A number behind a space.
-pub(crate) fn say_next<T: Display + Drop>(to: Stdout, number: T) {
+fn say_next<T: Display + Drop>(to: Stdout, number: T) {
     put(to, b' ');
     say_decimal(to, number);
 }

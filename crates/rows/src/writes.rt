@@ -1,7 +1,10 @@
 // Rows of the writers: a pack that is read is written again, or what is written stands in the row's bytes. The buffer is lent from the middle of a longer one.
 ghost use Rattle.std.specs.Prelude.{◌≤◌};
 
-use crate::say::{CANARY_BYTE, UNFINISHED, kept, say_answer, say_kept, say_list, say_next, write};
+use crate::kind::Pack;
+use crate::say::{
+    CANARY_BYTE, UNFINISHED, kept, say_answer, say_decimal, say_kept, say_list, write,
+};
 use std::array;
 use std::io::Stdout;
 use word::bytes::{byte_at, read_at};
@@ -45,36 +48,36 @@ fn array_again(bytes: &[u8], out: &mut [u8]) -> u64 {
 }
 
 // Whether a pack is written as it was into so much room.
-fn again(kind: u8, format: usize, bytes: &[u8], room: usize) -> bool
+fn again(pack: Pack, format: usize, bytes: &[u8], room: usize) -> bool
     requires { room ≤ 33000 }
 {
     let mut buffer = [CANARY_BYTE; 33024];
     let out = &mut buffer[1..1 + room];
-    let answer = match kind {
-        b'R' => matrix_again(format, bytes, out),
-        _ => array_again(bytes, out),
+    let answer = match pack {
+        Pack::Matrix => matrix_again(format, bytes, out),
+        Pack::Array => array_again(bytes, out),
     };
     right(answer, &buffer, bytes, room)
 }
 
 // Whether a pack of 1 to 32,900 bytes is written as it was into room that is exact, one byte short and longer.
-fn same(kind: u8, format: usize, bytes: &[u8]) -> bool {
+fn same(pack: Pack, format: usize, bytes: &[u8]) -> bool {
     let count = bytes.len();
     (1..=32900).contains(&count)
         && [count, count - 1, count + 9]
             .iter()
-            .all(|room| again(kind, format, bytes, *room))
+            .all(|room| again(pack, format, bytes, *room))
 }
 
-// The bytes are not said again.
-pub(crate) fn again_row(to: Stdout, kind: u8, format: usize, bytes: &[u8]) {
-    say_next(to, bytes.len());
+// How many bytes a pack has, and whether it is written again as it was.
+pub(crate) fn again_row(to: Stdout, pack: Pack, format: usize, bytes: &[u8]) {
+    say_decimal(to, bytes.len());
     write(
         to,
-        if same(kind, format, bytes) {
-            b" same\n"
+        if same(pack, format, bytes) {
+            b" same"
         } else {
-            b" differs\n"
+            b" differs"
         },
     );
 }

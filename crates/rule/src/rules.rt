@@ -18,11 +18,9 @@ impl Rule {
     fn admits(self, word: u64) -> bool
         ensures { result ≡ admitted self word }
     {
-        if self.sign <= word {
-            word - self.sign <= self.greatest
-        } else {
-            word <= self.greatest
-        }
+        // The lesser of the two is the word without its sign: half of all coefficients are negative, and a branch would not foretell which.
+        let size = word.min(word.wrapping_sub(self.sign));
+        size <= self.greatest
     }
 }
 
@@ -196,9 +194,18 @@ impl Form {
     pub fn admits(self, word: u64) -> bool
         ensures { result ≡ admitted (rule_of self) word }
     {
-        match self.rule() {
-            Ok(rule) => rule.admits(word),
-            Err(_) => self.mapped || word == 0,
+        if self.mapped {
+            return match self.rule() {
+                Ok(rule) => rule.admits(word),
+                Err(_) => true,
+            };
+        }
+        // each format's rule is a constant to the compiler
+        match self.length {
+            2 => ieee_rule::<Half>(self.coefficients).admits(word),
+            4 => ieee_rule::<Single>(self.coefficients).admits(word),
+            8 => ieee_rule::<Double>(self.coefficients).admits(word),
+            _ => word == 0,
         }
     }
 }

@@ -163,6 +163,7 @@ module _ (array : Meant) (n : ℕ) (bytes : List ℕ) (x : Begins array n bytes)
   again_read =
       record {
         listed = sizes_of array.sizes;
+        eight = refl;
         answered =
             ap (array_read_for bytes) again_complete
             ∙ ap (λ (m : Meant). Ok (array_at m n)) again_means

@@ -44,6 +44,7 @@ pub record WrittenAgain (bytes : List ℕ) (end : ℕ) (out : List ℕ) (answer 
 -- the answer of `read` on bytes that begin with the so many bytes of an array: its sizes and E, and the array, which is the last of them, from the start to the end
 pub record ReadAgain (array : Meant) (count : ℕ) (bytes : List ℕ) (answer : Result ArrayRead Stop) : Type 0 where
   pub listed : List ℕ
+  pub eight : length listed ≡ 8
   pub answered : answer ≡ Ok (record { dims = length array.sizes; sizes = listed; element = array.element; start = count - length array.body; length = count })
   pub same_sizes : sizes_listed (length array.sizes) listed ≡ array.sizes
   pub same_array : slice (count - length array.body) count bytes ≡ array.body

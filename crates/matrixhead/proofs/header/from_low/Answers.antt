@@ -1,10 +1,8 @@
 -- A control byte of Mode 1, where it is let in.
-use Rattle.std.proofs.Common.{◌∙◌, sym, ap, subst₂, get_or, arith}
+use Rattle.std.proofs.Common.{sym, subst₂, get_or, arith}
 use Rattle.verdict.specs.declared.Verdict.{Verdict}
 use Rattle.matrix.specs.declared.Fields.{Fields}
 use Rattle.matrix.specs.Header.{fields_in}
-use Rattle.matrix.specs.Machine.{in_single}
-use Rattle.matrix.specs.Reached.{verdict_behind}
 use Rattle.matrix.proofs.ControlBytes.{mode_one}
 use Rattle.matrix.proofs.Header.{header_least}
 use Rattle.matrixhead.specs.Parts.{HeadFrom}
@@ -16,10 +14,9 @@ returns-then-told c =
     let a = c.args in
     let b = a.bytes.now in
     let one = mode_one a.told a.c c.if-told.true c.requires.2 in
-    let e = c.single_of.ensures in
     subst₂ (λ (v : Verdict) (f : Fields). HeadFrom v f b c.from_single.result)
-    (ap (λ (f : Fields). verdict_behind (in_single f) b 2) e ∙ sym (single_step a.told b a.n a.c (omega arith) c.requires.1 one))
-    (e ∙ single_fields a.told b a.n a.c (omega arith) c.requires.1 (get_or b 2 0) one)
+    (sym (single_step a.told b a.size.n a.c (omega arith) c.requires.1 one))
+    (single_fields a.told b a.size.n a.c (omega arith) c.requires.1 (get_or b 2 0) one)
     c.from_single.ensures
 
 pub returns : goal.returns
@@ -27,6 +24,6 @@ returns c =
     let a = c.args in
     let b = a.bytes.now in
     rw c.at.ensures (
-      low_refused a.told b a.n a.c (omega arith) c.requires.1 c.if-told.false c.requires.2,
-      omega (arith, header_least (fields_in a.told a.n (get_or b 1 0) (get_or b 2 0))),
+      low_refused a.told b a.size.n a.c (omega arith) c.requires.1 c.if-told.false c.requires.2,
+      omega (arith, header_least (fields_in a.told a.size.n (get_or b 1 0) (get_or b 2 0))),
     )

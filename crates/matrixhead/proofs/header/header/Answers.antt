@@ -3,9 +3,11 @@ use Rattle.std.proofs.Common.{ℕ, ◌≡◌, ◌<◌, ◌∙◌, sym, ap, subst
 use borrow.Author.Tests.{eqb-true, eqb-false}
 use Rattle.matrix.specs.declared.Fields.{Fields}
 use Rattle.matrix.specs.Header.{fields_in, fields_of}
+use Rattle.matrix.proofs.ControlBytes.{size_kept}
 use Rattle.matrix.proofs.Header.{header_least}
 use Rattle.verdict.specs.declared.Verdict.{Verdict}
 use Rattle.verdict.specs.declared.Verdict.TheVariants.{Unfinished}
+use Rattle.verdict.proofs.Deciding.{judgement_kept}
 use Rattle.verdict.proofs.Reaching.{reach_start, reach_cut}
 use Rattle.matrix.specs.Table.{size_rows}
 use Rattle.matrix.specs.Machine.{size, step, least}
@@ -22,6 +24,11 @@ returns-then-is_empty c =
       sym (reach_start step least b (size t)) ∙ reach_cut step least b (size t) 0 (omega arith) ∙ ap Unfinished (sym c.least_of_all.ensures),
       omega (arith, header_least (fields_of t b)),
     )
+
+pub invariant_of-size : goal.invariant_of-size
+invariant_of-size c =
+    let n = c.byte_at-n.result in
+    record { lawful = size_kept n (judgement_kept (size_rows n) (at_kept (size_rows n) c.judge_size.result 0 c.judge_size.ensures c.in_ok-judged_at.field-0 c.in_ok-judged_at.ensures)) }
 
 pub returns : goal.returns
 returns c =

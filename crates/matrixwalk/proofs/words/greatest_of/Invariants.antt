@@ -3,4 +3,4 @@ use Rattle.matrixwalk.proofs.Blocks.{Covers}
 use Rattle.matrixwalk.proofs.words.greatest_of.Given as goal
 
 abbrev pub invariant-loop-i : goal.invariant-loop-i
-invariant-loop-i l = Covers l.bytes l.place l.size l.i l.most
+invariant-loop-i l = Covers l.words l.size l.i l.most
