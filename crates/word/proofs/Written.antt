@@ -1,6 +1,6 @@
 -- Reading what was written gives the word, and writing what was read leaves the bytes. Assumes nothing.
 use Prim.Native.Nat.{ℕ, zero, suc, ◌+◌, ◌-◌, ◌^◌, ◌≤◌, ◌<◌}
-use mathlib.Core.Path.{◌≡◌, refl, ◌∙◌, ap}
+use mathlib.Core.Path.{◌≡◌, refl, sym, ◌∙◌, ap}
 use mathlib.Core.Bool.{Bool, true, false, cond}
 use mathlib.Core.List.{List}
 use native.Mathlib.Omega.{arith}
@@ -16,8 +16,9 @@ use Rattle.verdict.proofs.Putting.{drop_put}
 use Rattle.std.specs.Prelude.{Ok, Err}
 use Rattle.verdict.specs.declared.Stop.TheVariants.{Unfinished, Refused}
 use Rattle.word.specs.Digits.{digits, value_of}
-use Rattle.word.specs.Bytes.{word_at, read_of, word_rows, Written}
+use Rattle.word.specs.Bytes.{word_at, word_of, read_of, word_rows, Written}
 use Rattle.word.proofs.Digits.{Below, below_drop, length_digits, value_digits, digits_take}
+use Rattle.word.proofs.Whole.{read_whole}
 
 put_length : (out : List ℕ) (place n word : ℕ) → n ≤ length out - place → length (put out place (digits 256 n word)) ≡ length out
 unfolding put
@@ -62,3 +63,18 @@ written_read s place n w f e =
     let l : length (take n (drop place s)) ≡ n = length-take-le n (drop place s) there in
     let d : digits 256 n w ≡ take n (drop place s) = ap (digits 256 n) t.1 ∙ digits_take 256 n (drop place s) (below_drop place s f) there in
     rw (d, l, ← drop-drop, take-append-drop, take-append-drop)
+
+-- ---- the same of the word that the bytes there are
+
+bytes_word : (s : List ℕ) (place n : ℕ) → n ≤ 8 → place + n ≤ length s → word_of (take n (drop place s)) ≡ word_at s place n
+bytes_word s place n short l =
+    let there : n ≤ length (drop place s) = rw length-drop (omega arith) in
+    rw (length-take-le n (drop place s) there, le-ltb 8 n short)
+
+pub word_written : (out : List ℕ) (place n word k : ℕ) (out' : List ℕ) → Written out place n word (Complete k) out' → place + n ≤ length out' → word_of (take n (drop place out')) ≡ word
+word_written out place n word k out' w l =
+    let x = written_well (word_rows out place n word) (digits 256 n word) out place k out' w in
+    bytes_word out' place n (ltb-false 8 n x.0.0) l ∙ sym (read_there out' place n word (read_written out place n word k out' w)).1
+
+pub written_word : (s : List ℕ) (place n : ℕ) → Below 256 s → n ≤ 8 → place + n ≤ length s → put s place (digits 256 n (word_of (take n (drop place s)))) ≡ s
+written_word s place n f short l = written_read s place n (word_of (take n (drop place s))) f (read_whole s place n short l ∙ ap Ok (sym (bytes_word s place n short l)))
