@@ -37,10 +37,10 @@ fn told_by(format: usize) -> Result<Told, Refusal>
 pub fn matrix_verdict(bytes: &[u8], format: usize) -> u64
     ensures { result ≡ packed_of (verdict_by format bytes.now) }
 {
-    match told_by(format) {
-        Ok(told) => u64::from(matrixreader::verdict(bytes, told)),
-        Err(refusal) => u64::from(Verdict::Refused(refusal)),
-    }
+    let Ok(told) = told_by(format) else {
+        return u64::from(Verdict::from(Reason::Disagree));
+    };
+    u64::from(matrixreader::verdict(bytes, told))
 }
 
 fn list_fields(bytes: &[u8], format: usize, fields: &mut [usize]) -> Result<usize, Stop>

@@ -38,6 +38,7 @@ const TOLD: Told = Told {
 };
 
 // The value of a frame of this kind.
+#[inline(always)]
 fn from_value(kind: Kind, value: &[u8]) -> FrameAnswer
     ensures { result ≡ value_answer kind value.now }
 {
@@ -53,6 +54,7 @@ fn from_value(kind: Kind, value: &[u8]) -> FrameAnswer
 }
 
 // Behind the key.
+#[inline(always)]
 fn from_length(kind: Kind, bytes: &[u8]) -> FrameAnswer
     ensures { result ≡ length_answer kind (length_of bytes.now) bytes.now }
 {
