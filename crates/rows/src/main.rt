@@ -138,7 +138,11 @@ fn row(to: Stdout, text: &[u8]) {
     say_asked(to, kind, format, text);
     say::put(to, b' ');
     say_given(to, kind, format, &bytes[..end], &given);
-    say::put(to, b'\n');
+    match kind {
+        // said with its last word
+        Kind::Again(_) => {}
+        _ => say::put(to, b'\n'),
+    }
 }
 
 // The next character of the input.

@@ -3,12 +3,21 @@ ghost use Rattle.std.specs.Prelude.{◌≤◌};
 
 use crate::Given;
 use crate::reads::Filled;
-use crate::say::{UNFINISHED, kept, say, say_answer, say_kept, say_list};
+use crate::say::{UNFINISHED, kept, say, say_answer, say_kept, write};
 use crate::writes::words_in;
 use std::io::Stdout;
 
 // What every entry holds before a call: no word scales to it.
 const CANARY: i64 = 0x7FFFFFFFFFFFFFFF;
+
+// A list's entries, each behind a space and its sign.
+fn say_values(to: Stdout, list: &[i64]) {
+    write(to, b" scaled");
+    for value in list {
+        let before: &[u8] = if *value < 0 { b" -" } else { b" " };
+        say(to, before, value.unsigned_abs());
+    }
+}
 
 // The unit of a length: what the word 0 is below nought.
 fn say_unit(to: Stdout, length: usize) {
@@ -34,7 +43,7 @@ pub(crate) fn pack_row(to: Stdout, format: usize, bytes: &[u8]) {
     let m = Filled::new(to, answer, bytes).pairs();
     cmatrix::matrix_fields(bytes, format, &mut fields);
     cwords::matrix_scale(&coefficients[..m], fields[3], &mut scaled);
-    say_list(to, b" scaled", &scaled[..m]);
+    say_values(to, &scaled[..m]);
     say_unit(to, fields[3]);
 }
 
@@ -44,7 +53,7 @@ fn say_scaled(to: Stdout, answer: u64, list: &[i64; 72], count: usize)
 {
     say_answer(to, answer);
     if answer < UNFINISHED {
-        say_list(to, b" scaled", &list[1..1 + count]);
+        say_values(to, &list[1..1 + count]);
         say_kept(to, kept(list, CANARY, count));
         return;
     }

@@ -75,9 +75,9 @@ pub(crate) fn again_row(to: Stdout, pack: Pack, format: usize, bytes: &[u8]) {
     write(
         to,
         if same(pack, format, bytes) {
-            b" same"
+            b" same\n"
         } else {
-            b" differs"
+            b" differs\n"
         },
     );
 }
