@@ -43,7 +43,7 @@ searched (c ∷ chunk) zero h none stops = rw (eq-eqb c 10 (stops (omega arith))
 searched (c ∷ chunk) (suc to) h none stops =
     rw (none 0 (omega arith)) (ap (λ (l : List ℕ). c ∷ l) (searched chunk to (omega arith) (λ i l. none (suc i) (omega arith)) (λ l. stops (omega arith))))
 
-found_count : (chunk : List ℕ) (to : ℕ) → to ≤ length chunk → ((i : ℕ) → i < to → eqb (get_or chunk i 0) 10 ≡ false) → (to < length chunk → get_or chunk to 0 ≡ 10) → length (piece_of chunk) ≡ to
+pub found_count : (chunk : List ℕ) (to : ℕ) → to ≤ length chunk → ((i : ℕ) → i < to → eqb (get_or chunk i 0) 10 ≡ false) → (to < length chunk → get_or chunk to 0 ≡ 10) → length (piece_of chunk) ≡ to
 found_count chunk to h none stops = ap length (searched chunk to h none stops) ∙ length-take-le to chunk h
 
 no_end : (chunk : List ℕ) (i : ℕ) → (is_byte 10 (get_or chunk i 0) ≡ true → ⊥) → eqb (get_or chunk i 0) 10 ≡ false

@@ -54,14 +54,14 @@ digits_of zero h = absurd (omega arith)
 digits_of (suc n) h = refl
 
 -- the last digit behind the others
-decimal_last : (n : ℕ) → decimal n ≡ digits (n / 10) ++ ((48 + n % 10) ∷ [])
+pub decimal_last : (n : ℕ) → decimal n ≡ digits (n / 10) ++ ((48 + n % 10) ∷ [])
 unfolding digits
 decimal_last n =
     either (ltb n 10)
     (λ t. let h : n < 10 = ltb-true n 10 t in let e : n / 10 ≡ 0 = omega arith in let r : n % 10 ≡ n = omega arith in rw (e, r) (decimal_small n h))
     (λ t. let h : 10 ≤ n = ltb-false n 10 t in rw (digits_of (n / 10) (omega arith)) (decimal_more n h))
 
-length_decimal : (n : ℕ) → length (decimal n) ≡ length (digits (n / 10)) + 1
+pub length_decimal : (n : ℕ) → length (decimal n) ≡ length (digits (n / 10)) + 1
 length_decimal n = rw decimal_last (length-append (digits (n / 10)) ((48 + n % 10) ∷ []))
 
 pub length_digits : (n : ℕ) → 0 < n → length (digits n) ≡ length (digits (n / 10)) + 1
