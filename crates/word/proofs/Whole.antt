@@ -28,8 +28,11 @@ read_part bytes place n h l =
     rw e (read_whole (take n (drop place bytes)) 0 n h all ∙ ap (λ (bs : List ℕ). Ok (value_of 256 bs)) (take-take n n (drop place bytes) (omega arith)))
 
 -- the word that so many of the bytes are
-pub part_word : (bytes : List ℕ) (place n : ℕ) → n ≤ 8 → place + n ≤ length bytes → word_of (take (place + n - place) (drop place bytes)) ≡ word_at bytes place n
-part_word bytes place n h l =
-    let e : place + n - place ≡ n = omega arith in
+pub bytes_word : (bytes : List ℕ) (place n : ℕ) → n ≤ 8 → place + n ≤ length bytes → word_of (take n (drop place bytes)) ≡ word_at bytes place n
+bytes_word bytes place n h l =
     let few : n ≤ length (drop place bytes) = rw length-drop (omega arith) in
-    rw (e, length-take-le n (drop place bytes) few, le-ltb 8 n h)
+    rw (length-take-le n (drop place bytes) few, le-ltb 8 n h)
+
+-- and as a slice of them is cut
+pub part_word : (bytes : List ℕ) (place n : ℕ) → n ≤ 8 → place + n ≤ length bytes → word_of (take (place + n - place) (drop place bytes)) ≡ word_at bytes place n
+part_word bytes place n h l = let e : place + n - place ≡ n = omega arith in rw e (bytes_word bytes place n h l)

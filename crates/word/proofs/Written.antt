@@ -18,7 +18,7 @@ use Rattle.verdict.specs.declared.Stop.TheVariants.{Unfinished, Refused}
 use Rattle.word.specs.Digits.{digits, value_of}
 use Rattle.word.specs.Bytes.{word_at, word_of, read_of, word_rows, Written}
 use Rattle.word.proofs.Digits.{Below, below_drop, length_digits, value_digits, digits_take}
-use Rattle.word.proofs.Whole.{read_whole}
+use Rattle.word.proofs.Whole.{read_whole, bytes_word}
 
 put_length : (out : List ℕ) (place n word : ℕ) → n ≤ length out - place → length (put out place (digits 256 n word)) ≡ length out
 unfolding put
@@ -65,11 +65,6 @@ written_read s place n w f e =
     rw (d, l, ← drop-drop, take-append-drop, take-append-drop)
 
 -- ---- the same of the word that the bytes there are
-
-bytes_word : (s : List ℕ) (place n : ℕ) → n ≤ 8 → place + n ≤ length s → word_of (take n (drop place s)) ≡ word_at s place n
-bytes_word s place n short l =
-    let there : n ≤ length (drop place s) = rw length-drop (omega arith) in
-    rw (length-take-le n (drop place s) there, le-ltb 8 n short)
 
 pub word_written : (out : List ℕ) (place n word k : ℕ) (out' : List ℕ) → Written out place n word (Complete k) out' → place + n ≤ length out' → word_of (take n (drop place out')) ≡ word
 word_written out place n word k out' w l =
