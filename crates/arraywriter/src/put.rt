@@ -44,7 +44,7 @@ fn put_numbers(out: &mut [u8], place: usize, values: &[usize]) -> usize
     at
 }
 
-// Bytes at a place with room for them. `copy_from_slice` is a call of memmove, which no other call for C asks a program to have.
+// Bytes at a place with room for them. `copy_from_slice` would be a call of memmove, which the archive for C does not ask a program for.
 fn put_bytes(out: &mut [u8], place: usize, bytes: &[u8])
     requires { place + length bytes.now ≤ length out.old }
     ensures { out.new ≡ put out.old place bytes.now }
